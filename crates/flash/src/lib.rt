@@ -1,0 +1,4 @@
+// Raw NAND flash devices: what one means, and three kinds of them.
+
+pub mod device;
+pub mod numbers;
