@@ -1,0 +1,4 @@
+pub mod Format
+pub mod Chip
+pub mod Law
+pub mod Told
