@@ -68,11 +68,11 @@ found-within : (s n : ℕ) (x : Found) → within s x ≡ placed n → x ≡ fou
 found-within s n (found m) h = cc
 found-within s n (fault m k) h = let z : _≡_ {A = ℕ} 0 1 = cc in absurd (omega arith)
 
-ranged-found : (bs : List ℕ) (k most n : ℕ) → ranged-at bs k most ≡ found n → (word bs k ≡ n) × (1 ≤ n) × (n ≤ most)
+pub ranged-found : (bs : List ℕ) (k most n : ℕ) → ranged-at bs k most ≡ found n → (word bs k ≡ n) × (1 ≤ n) × (n ≤ most)
 unfolding ranged-at
 ranged-found bs k most n h = (grind (arith, tells), grind (arith, tells), grind (arith, tells))
 
-section-found : (bs : List ℕ) (k n m e : ℕ) → section-at bs k n m ≡ found e → (word bs k ≡ n) × (e ≡ k + 4 + m) × (e ≤ length bs)
+pub section-found : (bs : List ℕ) (k n m e : ℕ) → section-at bs k n m ≡ found e → (word bs k ≡ n) × (e ≡ k + 4 + m) × (e ≤ length bs)
 unfolding section-at
 section-found bs k n m e h = (grind (arith, tells), grind (arith, tells), grind (arith, tells))
 
@@ -106,8 +106,8 @@ module _ (bs : List ℕ) (B P L : ℕ) where
   same-shape b p l h = (cc, cc, cc)
 
   -- section 1
-  shape-sound : shape-at bs ≡ accepted B P L →
-      (word bs 0 ≡ 3) × (word bs 4 ≡ B) × (word bs 8 ≡ P) × (word bs 12 ≡ L) × (1 ≤ B) × (B ≤ 4096) × (1 ≤ P) × (P ≤ 64) × (1 ≤ L) × (L ≤ 100000)
+  pub shape-sound : shape-at bs ≡ accepted B P L →
+      (word bs 0 ≡ 3) × (word bs 4 ≡ B) × (word bs 8 ≡ P) × (word bs 12 ≡ L) × (1 ≤ B) × (B ≤ 4096) × (1 ≤ P) × (P ≤ 64) × (1 ≤ L) × (L ≤ 100000) × (16 ≤ length bs)
   unfolding shape-at
   shape-sound h =
       let s₁ = section-step 1 0 3 12 (λ _. shape-blocks bs) h in
@@ -115,7 +115,7 @@ module _ (bs : List ℕ) (B P L : ℕ) where
       let s₃ = ranged-step 1 8 64 (λ p. shape-life bs (word bs 4) p) (s₂ .2) in
       let s₄ = ranged-step 1 12 100000 (λ l. accepted (word bs 4) (word bs 8) l) (s₃ .2) in
       let e = same-shape (word bs 4) (word bs 8) (word bs 12) (s₄ .2) in
-      (s₁ .0, e .0, e .1, e .2, omega arith, omega arith, omega arith, omega arith, omega arith, omega arith)
+      (s₁ .0, e .0, e .1, e .2, omega arith, omega arith, omega arith, omega arith, omega arith, omega arith, s₁ .1)
 
   -- the other four
   rest-sound : (b p l : ℕ) → checked-counts bs b p l ≡ accepted B P L →

@@ -1,1 +1,6 @@
+pub mod Words
 pub mod Checks
+pub mod Encodings
+pub mod Decodings
+pub mod Faults
+pub mod Laws

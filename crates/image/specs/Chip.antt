@@ -1,6 +1,6 @@
 -- A chip as an image shows it, and the bytes of that image: five counted sections, one after the other.
 use Prim.Native.Nat.{ℕ, _*_, _^_, _<_, _≤_}
-use lib.ListN.{length}
+use lib.ListN.{length, replicate}
 use mathlib.Core.List.{List, [], _∷_, _++_}
 use mathlib.Core.Path.{_≡_}
 use Rattle.std.specs.shelf.Lists.{All, joined}
@@ -50,3 +50,15 @@ pub record In-range (c : Chip) : Type 0 where
   pub sectors-fit : All Fits-32 (c .sectors)
   pub stamps-fit : All Fits-32 (c .stamps)
   pub contents-whole : All Whole-page (c .contents)
+
+-- A chip as it leaves the factory: never erased, all pages blank, with every bit set.
+abbrev pub blank-chip : ℕ → ℕ → ℕ → Chip
+blank-chip b p l = record {
+  blocks = b;
+  pages = p;
+  life = l;
+  counts = replicate b 0;
+  sectors = replicate (b * p) 0xFFFFFFFF;
+  stamps = replicate (b * p) 0xFFFFFFFF;
+  contents = replicate (b * p) (replicate 512 0xFF);
+}

@@ -1,5 +1,5 @@
 -- The bytes of a chip image, and what its check finds: the first fault, or the geometry.
-use Prim.Native.Nat.{ℕ, _+_, _*_, _/_, _%_}
+use Prim.Native.Nat.{ℕ, zero, suc, _+_, _*_, _/_, _%_}
 use lib.Dec.{eqb, ltb, leb}
 use lib.ListN.{length, getD}
 use mathlib.Core.Bool.{cond, _&&_}
@@ -12,6 +12,15 @@ word bs k = getD bs k 0 + getD bs (k + 1) 0 * 256 + getD bs (k + 2) 0 * 65536 + 
 -- The four bytes of a number below 2 ^ 32.
 abbrev pub word-bytes : ℕ → List ℕ
 word-bytes n = n % 256 ∷ n / 256 % 256 ∷ n / 65536 % 256 ∷ n / 16777216 % 256 ∷ []
+
+-- n items from byte k on, each read from its first byte and m bytes long.
+abbrev pub items-from : {X : Type 0} → (ℕ → X) → ℕ → ℕ → ℕ → List X
+items-from item m k zero = []
+items-from item m k (suc n) = item k ∷ items-from item m (k + m) n
+
+-- n numbers from byte k on.
+abbrev pub words-from : List ℕ → ℕ → ℕ → List ℕ
+words-from bs k n = items-from (word bs) 4 k n
 
 -- How long the image of b blocks of p pages is.
 abbrev pub image-length : ℕ → ℕ → ℕ

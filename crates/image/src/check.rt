@@ -17,6 +17,7 @@ use crate::shape::PAGE_SIZE;
 // then blocks, pages and life in range; at last, nothing after the fifth.
 pub fn check(bytes: &[u8]) -> Result<Geometry, ImageFault>
     ensures answer { λ r. ⌜ check-told r ≡ checked (now (bytes .entry)) ⌝ }
+    ensures law { λ r. ⌜ Check-law (now (bytes .entry)) (check-told r) ⌝ }
 {
     let geometry = read_shape(bytes)?;
     let blocks = geometry.blocks;
