@@ -11,9 +11,8 @@ use Rattle.std.proofs.shelf.Lists.{getD-take, getD-drop}
 use Rattle.std.specs.shelf.Lists.{All, joined}
 use Rattle.image.specs.Chip.{Chip, counted, numbers, encoding, In-range, Fits-32, Whole-page}
 use Rattle.image.specs.Format.{word, word-bytes, items-from, words-from, image-length}
-use Rattle.image.specs.Law.{Bytes}
 use Rattle.image.proofs.Checks.{Accepted}
-use Rattle.image.proofs.Words.{word-bytes-at, word-fits}
+use Rattle.image.proofs.Words.{Bytes, word-bytes-at, word-fits}
 
 pub length-items-from : {X : Type 0} (item : ℕ → X) (m k n : ℕ) → length (items-from item m k n) ≡ n
 length-items-from item m k zero = refl

@@ -12,9 +12,8 @@ use mathlib.Core.Logic.{⊎-elim}
 use Rattle.std.specs.shelf.Lists.{All, joined}
 use Rattle.image.specs.Chip.{Chip, counted, numbers, encoding, In-range, Fits-32, Whole-page, blank-chip}
 use Rattle.image.specs.Format.{word, word-bytes, image-length}
-use Rattle.image.specs.Law.{Bytes}
 use Rattle.image.proofs.Checks.{Accepted}
-use Rattle.image.proofs.Words.{word-of, word-first, word-past}
+use Rattle.image.proofs.Words.{Bytes, word-of, word-first, word-past}
 
 -- items of m bytes each
 pub length-items : {X : Type 0} (bytes : X → List ℕ) (m : ℕ) (xs : List X) → All (λ x. length (bytes x) ≡ m) xs → length (joined bytes xs) ≡ m * length xs

@@ -13,11 +13,11 @@ use Rattle.std.proofs.shelf.Tests.{cases-eq, cases-lt}
 use Rattle.std.proofs.shelf.Ways.{tells}
 use Rattle.image.specs.Chip.{Chip, encoding, In-range, blank-chip}
 use Rattle.image.specs.Format.{word, image-length, Found, found, fault, ranged-at, section-at, end-at, Placed, placed, misplaced, within, Checked, accepted, faulty, and-then, with-shape, shape-at, shape-blocks, shape-pages, shape-life, checked-end, checked-contents, checked-stamps, checked-sectors, checked-counts, checked}
-use Rattle.image.specs.Law.{Bytes, Extent, extent, most-at, Wrong, count-cut, items-cut, count-wrong, out-of-range, surplus, Fault-at}
+use Rattle.image.specs.Law.{Extent, extent, most-at, Wrong, count-cut, items-cut, count-wrong, out-of-range, surplus, Fault-at}
 use Rattle.image.proofs.Checks.{Accepted, section-found, ranged-found, shape-sound}
 use Rattle.image.proofs.Decodings.{decoded, decoded-in-range, encoding-decoded}
 use Rattle.image.proofs.Encodings.{length-encoding, encoding-accepted, encoding-bytes, blank-in-range}
-use Rattle.image.proofs.Words.{word-same}
+use Rattle.image.proofs.Words.{Bytes, word-same}
 
 module _ (bs : List ℕ) (byte : Bytes bs) (b p l : ℕ)
     (b-low : 1 ≤ b) (b-high : b ≤ 4096) (p-low : 1 ≤ p) (p-high : p ≤ 64) (l-low : 1 ≤ l) (l-high : l ≤ 100000) where

@@ -4,3 +4,5 @@ pub mod Encodings
 pub mod Decodings
 pub mod Faults
 pub mod Laws
+pub mod Totals
+pub mod Reports

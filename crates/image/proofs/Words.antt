@@ -8,7 +8,10 @@ use native.Mathlib.Nat.{div-div-eq-div-mul}
 use native.Mathlib.Omega.{arith}
 use Rattle.std.proofs.shelf.Lists.{drop-more}
 use Rattle.image.specs.Format.{word, word-bytes}
-use Rattle.image.specs.Law.{Bytes}
+
+-- Each item is a byte, as in every slice of `u8`.
+abbrev pub Bytes : List ℕ → Type 0
+Bytes bs = (k : ℕ) → getD bs k 0 < 256
 
 pub word-of : (n : ℕ) → n < 2 ^ 32 → n % 256 + n / 256 % 256 * 256 + n / 65536 % 256 * 65536 + n / 16777216 % 256 * 16777216 ≡ n
 word-of n h =

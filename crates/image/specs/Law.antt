@@ -1,16 +1,12 @@
 -- What the check's answer means in the terms of chips and their images, whatever the check does to find it.
 use Prim.Native.Nat.{ℕ, _+_, _*_, _<_, _≤_}
 use lib.Dec.{eqb}
-use lib.ListN.{length, getD, take}
+use lib.ListN.{length, take}
 use mathlib.Core.Bool.{cond}
 use mathlib.Core.List.{List}
 use mathlib.Core.Path.{_≡_}
 use Rattle.image.specs.Chip.{Chip, In-range, encoding}
 use Rattle.image.specs.Format.{word, Checked, accepted, faulty}
-
--- Each item is a byte. That holds of every slice of `u8`; a proof is not handed it for bytes that the code does not read.
-abbrev pub Bytes : List ℕ → Type 0
-Bytes bs = (k : ℕ) → getD bs k 0 < 256
 
 -- A section of an image: the byte at which its count stands, that count, and how many bytes its items take.
 pub record Extent : Type 0 where
@@ -49,6 +45,6 @@ pub record Fault-at (bs : List ℕ) (m s k : ℕ) : Type 0 where
 -- The bytes are accepted exactly when they are the image of a chip in range, and then B, P and life are that chip's.
 pub record Check-law (bs : List ℕ) (x : Checked) : Type 0 where
   pub takes-images : (c : Chip) → In-range c → encoding c ≡ bs → x ≡ accepted (c .blocks) (c .pages) (c .life)
-  pub takes-only-images : Bytes bs → (b p l : ℕ) → x ≡ accepted b p l →
+  pub takes-only-images : (b p l : ℕ) → x ≡ accepted b p l →
       (c : Chip) × In-range c × (encoding c ≡ bs) × (c .blocks ≡ b) × (c .pages ≡ p) × (c .life ≡ l)
-  pub places-faults : Bytes bs → (m s k : ℕ) → x ≡ faulty m s k → Fault-at bs m s k
+  pub places-faults : (m s k : ℕ) → x ≡ faulty m s k → Fault-at bs m s k

@@ -4,7 +4,10 @@
 // on. Each level holds the lower fault whole, so that whoever has an image fault can tell the number, the section and the byte.
 
 ghost use mathlib.Core.Path.{_≡_};
+ghost use Rattle.image.specs.Report.{problem-text, number-text, section-text, image-text};
 ghost use Rattle.image.specs.Told.{problem-number, section-number, in-named};
+ghost use Rattle.std.specs.declared.option.Option.the-variants.{Some};
+use std::fmt;
 
 // What is wrong.
 #[derive(Clone, Copy, PartialEq, Eq, Debug)]
@@ -31,6 +34,27 @@ impl Problem {
             Problem::Surplus => 10,
         }
     }
+
+    // The refusal in words.
+    pub fn reason(self) -> &'static str
+        ensures { λ r. ⌜ now r ≡ problem-text self ⌝ }
+    {
+        match self {
+            Problem::EndsInside => "the bytes end inside a count or an item list",
+            Problem::WrongCount => "the count is wrong",
+            Problem::OutOfRange => "the number is out of range",
+            Problem::Surplus => "bytes follow the last section",
+        }
+    }
+}
+
+pub impl fmt::Display for Problem as ProblemDisplay {
+    ghost shown = { λ x. Some (problem-text x) };
+
+    fn fmt<W: fmt::Write>(&self, f: &mut fmt::Formatter<W>) -> fmt::Result {
+        let reason = self.reason();
+        write!(f, "{reason}")
+    }
 }
 
 // A problem, and the byte (from 0) at which the count, the number, the item list or the surplus begins.
@@ -38,6 +62,15 @@ impl Problem {
 pub struct NumberFault {
     pub problem: Problem,
     pub byte: usize,
+}
+
+pub impl fmt::Display for NumberFault as NumberFaultDisplay {
+    ghost shown = { λ x. Some (number-text x) };
+
+    fn fmt<W: fmt::Write>(&self, f: &mut fmt::Formatter<W>) -> fmt::Result {
+        let NumberFault { problem, byte } = *self;
+        write!(f, "byte {byte}: {problem}")
+    }
 }
 
 // The five sections of an image, in their order.
@@ -84,6 +117,16 @@ pub struct SectionFault {
     pub fault: NumberFault,
 }
 
+pub impl fmt::Display for SectionFault as SectionFaultDisplay {
+    ghost shown = { λ x. Some (section-text x) };
+
+    fn fmt<W: fmt::Write>(&self, f: &mut fmt::Formatter<W>) -> fmt::Result {
+        let section = self.section.number();
+        let fault = self.fault;
+        write!(f, "section {section}, {fault}")
+    }
+}
+
 // A fault of an image.
 #[derive(Clone, Copy, PartialEq, Eq, Debug)]
 pub struct ImageFault {
@@ -95,5 +138,14 @@ pub impl From<SectionFault> for ImageFault as ImageFaultFrom {
 
     fn from(fault: SectionFault) -> Self {
         ImageFault { fault }
+    }
+}
+
+pub impl fmt::Display for ImageFault as ImageFaultDisplay {
+    ghost shown = { λ x. Some (image-text x) };
+
+    fn fmt<W: fmt::Write>(&self, f: &mut fmt::Formatter<W>) -> fmt::Result {
+        let fault = self.fault;
+        write!(f, "no chip image: {fault}")
     }
 }

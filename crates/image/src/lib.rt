@@ -3,4 +3,5 @@
 pub mod check;
 pub mod fault;
 mod read;
+pub mod report;
 pub mod shape;

@@ -15,10 +15,19 @@ use crate::shape::MOST_BLOCKS;
 use crate::shape::MOST_LIFE;
 use crate::shape::MOST_PAGES;
 
+// The number at a byte that is there.
+pub fn number_at(bytes: &[u8], at: usize) -> u32
+    requires { ⌜ at + 4 ≤ length (now bytes) ⌝ }
+    ensures value { λ r. ⌜ r ≡ word (now (bytes .entry)) at ⌝ }
+    ensures bound { λ r. ⌜ r < 2 ^ 32 ⌝ }
+{
+    u32::from_le_bytes([bytes[at], bytes[at + 1], bytes[at + 2], bytes[at + 3]])
+}
+
 // The number at a byte.
-pub fn read_number(bytes: &[u8], at: usize) -> Result<u32, NumberFault>
+fn read_number(bytes: &[u8], at: usize) -> Result<u32, NumberFault>
     ensures value { λ r. ⌜ number-told r ≡ number-at (now (bytes .entry)) at ⌝ }
-    ensures bound { λ r. ⌜ made r (λ n. (at + 4 ≤ length (now (bytes .entry))) × (n ≡ word (now (bytes .entry)) at)) ⌝ }
+    ensures bound { λ r. ⌜ made r (λ _. at + 4 ≤ length (now (bytes .entry))) ⌝ }
 {
     if bytes.len() < 4 || bytes.len() - 4 < at {
         return Err(NumberFault {
@@ -26,7 +35,7 @@ pub fn read_number(bytes: &[u8], at: usize) -> Result<u32, NumberFault>
             byte: at,
         });
     }
-    Ok(u32::from_le_bytes([bytes[at], bytes[at + 1], bytes[at + 2], bytes[at + 3]]))
+    Ok(number_at(bytes, at))
 }
 
 // A number of the first section, from 1 to `most`.
