@@ -16,7 +16,7 @@ use crate::shape::MOST_LIFE;
 use crate::shape::MOST_PAGES;
 
 // The number at a byte that is there.
-pub fn number_at(bytes: &[u8], at: usize) -> u32
+pub(crate) fn number_at(bytes: &[u8], at: usize) -> u32
     requires { ⌜ at + 4 ≤ length (now bytes) ⌝ }
     ensures value { λ r. ⌜ r ≡ word (now (bytes .entry)) at ⌝ }
     ensures bound { λ r. ⌜ r < 2 ^ 32 ⌝ }
@@ -54,7 +54,7 @@ fn read_ranged(bytes: &[u8], at: usize, most: u32) -> Result<u32, SectionFault>
 }
 
 // The end of the section that begins at `at`, with this count and this many bytes of items.
-pub fn read_section(
+pub(crate) fn read_section(
     bytes: &[u8],
     section: Section,
     at: usize,
@@ -81,7 +81,7 @@ pub fn read_section(
 }
 
 // The first section: blocks, pages and life, each in range.
-pub fn read_shape(bytes: &[u8]) -> Result<Geometry, SectionFault>
+pub(crate) fn read_shape(bytes: &[u8]) -> Result<Geometry, SectionFault>
     ensures value { λ r. ⌜ shape-told r ≡ shape-at (now (bytes .entry)) ⌝ }
     ensures bound { λ r. ⌜ made r (λ g. (g .blocks ≤ 4096) × (g .pages ≤ 64)) ⌝ }
 {
@@ -97,7 +97,7 @@ pub fn read_shape(bytes: &[u8]) -> Result<Geometry, SectionFault>
 }
 
 // That the bytes end at `at`, where the last section does.
-pub fn read_end(bytes: &[u8], at: usize) -> Result<usize, SectionFault>
+pub(crate) fn read_end(bytes: &[u8], at: usize) -> Result<usize, SectionFault>
     ensures { λ r. ⌜ section-told r ≡ within 5 (end-at (now (bytes .entry)) at) ⌝ }
 {
     if at < bytes.len() {
