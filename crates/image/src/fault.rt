@@ -35,6 +35,16 @@ impl Problem {
         }
     }
 
+    // The fault that it is at a byte.
+    pub fn at(self, byte: usize) -> NumberFault
+        ensures { λ r. ⌜ r ≡ record { problem = self; byte = byte } ⌝ }
+    {
+        NumberFault {
+            problem: self,
+            byte,
+        }
+    }
+
     // The refusal in words.
     pub fn reason(self) -> &'static str
         ensures { λ r. ⌜ now r ≡ problem-text self ⌝ }

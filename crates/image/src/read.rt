@@ -30,10 +30,7 @@ fn read_number(bytes: &[u8], at: usize) -> Result<u32, NumberFault>
     ensures bound { λ r. ⌜ made r (λ _. at + 4 ≤ length (now (bytes .entry))) ⌝ }
 {
     if bytes.len() < 4 || bytes.len() - 4 < at {
-        return Err(NumberFault {
-            problem: Problem::EndsInside,
-            byte: at,
-        });
+        return Err(Problem::EndsInside.at(at));
     }
     Ok(number_at(bytes, at))
 }
@@ -45,10 +42,7 @@ fn read_ranged(bytes: &[u8], at: usize, most: u32) -> Result<u32, SectionFault>
 {
     let n = Section::Shape.within(read_number(bytes, at))?;
     if n < 1 || n > most {
-        return Section::Shape.within(Err(NumberFault {
-            problem: Problem::OutOfRange,
-            byte: at,
-        }));
+        return Section::Shape.within(Err(Problem::OutOfRange.at(at)));
     }
     Ok(n)
 }
@@ -66,16 +60,10 @@ pub(crate) fn read_section(
 {
     let n = section.within(read_number(bytes, at))?;
     if n != count {
-        return section.within(Err(NumberFault {
-            problem: Problem::WrongCount,
-            byte: at,
-        }));
+        return section.within(Err(Problem::WrongCount.at(at)));
     }
     if bytes.len() - (at + 4) < size {
-        return section.within(Err(NumberFault {
-            problem: Problem::EndsInside,
-            byte: at + 4,
-        }));
+        return section.within(Err(Problem::EndsInside.at(at + 4)));
     }
     Ok(at + 4 + size)
 }
@@ -101,10 +89,7 @@ pub(crate) fn read_end(bytes: &[u8], at: usize) -> Result<usize, SectionFault>
     ensures { λ r. ⌜ section-told r ≡ within 5 (end-at (now (bytes .entry)) at) ⌝ }
 {
     if at < bytes.len() {
-        return Section::Contents.within(Err(NumberFault {
-            problem: Problem::Surplus,
-            byte: at,
-        }));
+        return Section::Contents.within(Err(Problem::Surplus.at(at)));
     }
     Ok(at)
 }
