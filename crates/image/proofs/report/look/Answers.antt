@@ -13,5 +13,5 @@ erase-total-requires c κs =
 pub returns-in-Ok : need.returns-in-Ok
 returns-in-Ok c =
     let line = ap (chip-line (c .in-Ok .geometry .blocks) (c .in-Ok .geometry .pages) (c .in-Ok .geometry .life)) (c .erase-total .ensures)
-    ∙ sym (look-checked (c .args .bytes .now) _ (c .if-bytes-gt-MOST-BYTES .left) (c .in-Ok .ensures tt .answer)) in
+    ∙ sym (look-checked (c .args .bytes .now) _ (omega arith) (c .in-Ok .ensures tt .answer)) in
     record { line = line; law = report-law _ _ line }
