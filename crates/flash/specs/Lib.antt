@@ -1,3 +1,5 @@
 pub mod Meaning
 pub mod Calls
 pub mod Told
+pub mod Joined
+pub mod Windowed
