@@ -1,3 +1,4 @@
 pub mod Same
 pub mod Joins
 pub mod Windows
+pub mod Rejoined

@@ -3,3 +3,4 @@ pub mod Calls
 pub mod Told
 pub mod Joined
 pub mod Windowed
+pub mod Laws

@@ -4,8 +4,10 @@
 // itself what only one side would take. A side without blocks has no say in that: the join is then the other side. However many blocks the
 // sides have, no more than 65,536 are shown. Erasing clears the whole block of the side, pages that the join hides too.
 
+ghost use Prim.Native.Nat.{_<_, _≤_};
 ghost use mathlib.Core.Path.{_≡_};
 ghost use Rattle.flash.specs.Joined.{Lies, shared, joined};
+ghost use Rattle.flash.specs.Laws.{Rejoins};
 use crate::device::Device;
 use crate::device::Mark;
 use crate::device::Refusal;
@@ -29,6 +31,17 @@ enum Side {
 }
 
 impl<First: Device, Second: Device> Join<First, Second> {
+    // Two devices as one. With a side that has no blocks it is the other side, and two windows that split a device make that device again.
+    pub fn new(first: First, second: Second) -> Join<First, Second>
+        ensures first { λ r. ⌜ r .first ≡ first ⌝ }
+        ensures second { λ r. ⌜ r .second ≡ second ⌝ }
+        ensures no_first { λ _. ⌜ (First·Device .flash first .blocks ≡ 0 → Second·Device .flash second .blocks ≤ 65536 → joined (First·Device .flash first) (Second·Device .flash second) ≡ Second·Device .flash second) ⌝ }
+        ensures no_second { λ _. ⌜ (Second·Device .flash second .blocks ≡ 0 → 0 < First·Device .flash first .blocks → First·Device .flash first .blocks ≤ 65536 → joined (First·Device .flash first) (Second·Device .flash second) ≡ First·Device .flash first) ⌝ }
+        ensures whole { λ _. ⌜ Rejoins (First·Device .flash first) (Second·Device .flash second) ⌝ }
+    {
+        Join { first, second }
+    }
+
     // Which block of which side a block of the join is.
     fn side(&self, block: Block) -> Result<Side, Refusal>
         ensures { λ r. ⌜ Lies (First·Device .flash (now (self .entry) .first)) (Second·Device .flash (now (self .entry) .second)) (block .0) r ⌝ }

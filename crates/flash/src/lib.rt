@@ -3,4 +3,5 @@
 pub mod device;
 pub mod join;
 pub mod numbers;
+pub mod readback;
 pub mod window;

@@ -1,0 +1,12 @@
+use mathlib.Core.Path.{refl}
+use Rattle.flash.proofs.Rejoined.{without-first, without-second, rejoins}
+use Rattle.flash.proofs.join.Join.new.Needs as need
+
+pub returns : need.returns
+returns g c = record {
+  first = refl;
+  second = refl;
+  no-first = without-first (g .First·Device .flash (c .args .first)) (g .Second·Device .flash (c .args .second)) (g .Second·Device·met .proper (c .args .second));
+  no-second = without-second (g .First·Device .flash (c .args .first)) (g .Second·Device .flash (c .args .second)) (g .First·Device·met .proper (c .args .first));
+  whole = rejoins (g .First·Device .flash (c .args .first)) (g .Second·Device .flash (c .args .second));
+}

@@ -1,0 +1,5 @@
+use borrow.Author.Needs.{needs}
+use Rattle.flash.proofs.readback.erase_and_read.Needs as need
+
+pub returns : need.returns
+returns g c = record { answer = search needs; filled = search needs; after = search needs; others = search needs }
