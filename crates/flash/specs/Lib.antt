@@ -4,3 +4,5 @@ pub mod Told
 pub mod Joined
 pub mod Windowed
 pub mod Laws
+pub mod Patched
+pub mod Stored

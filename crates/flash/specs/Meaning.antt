@@ -23,7 +23,8 @@ abbrev pub Well-held : Page → Type 0
 Well-held blank = Unit {0}
 Well-held (holds s t bs) = (s ≡ 0xFFFFFFFF → ⊥) × (length bs ≡ 512)
 
--- What is true of the meaning of every device.
+-- What every chip means is proper, and joins, windows, programs and erases keep it so: nothing outside the geometry, and no page that
+-- could not have been programmed.
 pub record Proper (f : Flash) : Type 0 where
   pub no-count : (c : ℕ) → f .blocks ≤ c → f .count c ≡ 0
   pub no-block : (c i : ℕ) → f .blocks ≤ c → f .page c i ≡ blank

@@ -7,7 +7,7 @@
 ghost use lib.ListN.{length};
 ghost use mathlib.Core.Path.{_≡_};
 ghost use Rattle.flash.specs.Calls.{read-answer, read-buffer, program-answer, programmed, erase-answer, erased, count-answer};
-ghost use Rattle.flash.specs.Meaning.{Flash, Proper};
+ghost use Rattle.flash.specs.Meaning.{Flash};
 ghost use Rattle.flash.specs.Told.{refusal-number, read-told, done-told, count-told};
 use crate::numbers::Block;
 use crate::numbers::PageOffset;
@@ -58,9 +58,6 @@ impl Refusal {
 pub trait Device {
     // What the device means.
     ghost flash: { Self → Flash };
-
-    // It says nothing of blocks and pages that do not exist, and no page holds what cannot be programmed.
-    law proper: { (d : Self) → Proper (flash d) };
 
     // How many blocks there are.
     fn blocks(&self) -> u32

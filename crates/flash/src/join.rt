@@ -8,6 +8,7 @@ ghost use Prim.Native.Nat.{_<_, _≤_};
 ghost use mathlib.Core.Path.{_≡_};
 ghost use Rattle.flash.specs.Joined.{Lies, shared, joined};
 ghost use Rattle.flash.specs.Laws.{Rejoins};
+ghost use Rattle.flash.specs.Meaning.{Proper};
 use crate::device::Device;
 use crate::device::Mark;
 use crate::device::Refusal;
@@ -35,8 +36,9 @@ impl<First: Device, Second: Device> Join<First, Second> {
     pub fn new(first: First, second: Second) -> Join<First, Second>
         ensures first { λ r. ⌜ r .first ≡ first ⌝ }
         ensures second { λ r. ⌜ r .second ≡ second ⌝ }
-        ensures no_first { λ _. ⌜ (First·Device .flash first .blocks ≡ 0 → Second·Device .flash second .blocks ≤ 65536 → joined (First·Device .flash first) (Second·Device .flash second) ≡ Second·Device .flash second) ⌝ }
-        ensures no_second { λ _. ⌜ (Second·Device .flash second .blocks ≡ 0 → 0 < First·Device .flash first .blocks → First·Device .flash first .blocks ≤ 65536 → joined (First·Device .flash first) (Second·Device .flash second) ≡ First·Device .flash first) ⌝ }
+        ensures proper { λ _. ⌜ (Proper (First·Device .flash first) → Proper (Second·Device .flash second) → Proper (joined (First·Device .flash first) (Second·Device .flash second))) ⌝ }
+        ensures no_first { λ _. ⌜ (Proper (Second·Device .flash second) → First·Device .flash first .blocks ≡ 0 → Second·Device .flash second .blocks ≤ 65536 → joined (First·Device .flash first) (Second·Device .flash second) ≡ Second·Device .flash second) ⌝ }
+        ensures no_second { λ _. ⌜ (Proper (First·Device .flash first) → Second·Device .flash second .blocks ≡ 0 → 0 < First·Device .flash first .blocks → First·Device .flash first .blocks ≤ 65536 → joined (First·Device .flash first) (Second·Device .flash second) ≡ First·Device .flash first) ⌝ }
         ensures whole { λ _. ⌜ Rejoins (First·Device .flash first) (Second·Device .flash second) ⌝ }
     {
         Join { first, second }

@@ -1,7 +1,9 @@
 // Raw NAND flash devices: what one means, and three kinds of them.
 
+pub mod chip;
 pub mod device;
 pub mod join;
 pub mod numbers;
+mod patch;
 pub mod readback;
 pub mod window;

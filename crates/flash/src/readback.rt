@@ -8,6 +8,7 @@ ghost use mathlib.Core.Bool.{true};
 ghost use mathlib.Core.Path.{_≡_};
 ghost use Rattle.flash.specs.Calls.{accepts, marked, unmarked, program-answer, programmed, erase-answer, erased};
 ghost use Rattle.flash.specs.Laws.{then-read, then-filled, Same-but-page, Once-erased};
+ghost use Rattle.flash.specs.Meaning.{Proper};
 ghost use Rattle.flash.specs.Told.{read-told};
 use crate::device::Device;
 use crate::device::Mark;
@@ -27,6 +28,7 @@ pub fn program_and_read<D: Device>(
     ensures answer { λ r. ⌜ read-told r ≡ then-read (D·Device .flash (now (device .entry))) (program-answer (D·Device .flash (now (device .entry))) (block .0) (page .0) (mark .sector .0) (length (now (bytes .entry)))) (page .0) (length (now (buffer .entry))) (marked (mark .sector .0) (mark .stamp)) ⌝ }
     ensures filled { λ r. ⌜ now (buffer .exit) ≡ then-filled (read-told r) (now (bytes .entry)) (now (buffer .entry)) ⌝ }
     ensures after { λ _. ⌜ D·Device .flash (now (device .exit)) ≡ programmed (D·Device .flash (now (device .entry))) (block .0) (page .0) (mark .sector .0) (mark .stamp) (now (bytes .entry)) ⌝ }
+    ensures proper { λ _. ⌜ (Proper (D·Device .flash (now (device .entry))) → Proper (D·Device .flash (now (device .exit)))) ⌝ }
     ensures others { λ _. ⌜ Same-but-page (D·Device .flash (now (device .entry))) (D·Device .flash (now (device .exit))) (block .0) (page .0) ⌝ }
 {
     device.program(block, page, mark, bytes)?;
@@ -43,6 +45,7 @@ pub fn erase_and_read<D: Device>(
     ensures answer { λ r. ⌜ read-told r ≡ then-read (D·Device .flash (now (device .entry))) (erase-answer (D·Device .flash (now (device .entry))) (block .0)) (page .0) (length (now (buffer .entry))) unmarked ⌝ }
     ensures filled { λ r. ⌜ now (buffer .exit) ≡ then-filled (read-told r) (replicate 512 0xFF) (now (buffer .entry)) ⌝ }
     ensures after { λ _. ⌜ D·Device .flash (now (device .exit)) ≡ erased (D·Device .flash (now (device .entry))) (block .0) ⌝ }
+    ensures proper { λ _. ⌜ (Proper (D·Device .flash (now (device .entry))) → Proper (D·Device .flash (now (device .exit)))) ⌝ }
     ensures others { λ _. ⌜ (accepts (erase-answer (D·Device .flash (now (device .entry))) (block .0)) ≡ true → Once-erased (D·Device .flash (now (device .entry))) (D·Device .flash (now (device .exit))) (block .0)) ⌝ }
 {
     device.erase(block)?;

@@ -5,6 +5,7 @@
 
 ghost use Prim.Native.Nat.{_+_, _<_, _≤_};
 ghost use mathlib.Core.Path.{_≡_};
+ghost use Rattle.flash.specs.Meaning.{Proper};
 ghost use Rattle.flash.specs.Windowed.{Shows, windowed};
 use crate::device::Device;
 use crate::device::Mark;
@@ -20,6 +21,18 @@ pub struct Window<D: Device> {
 }
 
 impl<D: Device> Window<D> {
+    // Some blocks of a device in a row, as many as there are.
+    pub fn new(device: D, first: Block, count: u32) -> Window<D>
+        ensures made { λ r. ⌜ r ≡ record { device = device; first = first; count = count } ⌝ }
+        ensures proper { λ _. ⌜ (Proper (D·Device .flash device) → Proper (windowed (D·Device .flash device) (first .0) count)) ⌝ }
+    {
+        Window {
+            device,
+            first,
+            count,
+        }
+    }
+
     // Which block of the device a block of the window is.
     fn shown(&self, block: Block) -> Result<Block, Refusal>
         ensures { λ r. ⌜ Shows (D·Device .flash (now (self .entry) .device)) (now (self .entry) .first .0) (now (self .entry) .count) (block .0) r ⌝ }

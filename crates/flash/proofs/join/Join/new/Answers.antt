@@ -1,4 +1,5 @@
 use mathlib.Core.Path.{refl}
+use Rattle.flash.proofs.Properly.{joined-proper}
 use Rattle.flash.proofs.Rejoined.{without-first, without-second, rejoins}
 use Rattle.flash.proofs.join.Join.new.Needs as need
 
@@ -6,7 +7,8 @@ pub returns : need.returns
 returns g c = record {
   first = refl;
   second = refl;
-  no-first = without-first (g .First·Device .flash (c .args .first)) (g .Second·Device .flash (c .args .second)) (g .Second·Device·met .proper (c .args .second));
-  no-second = without-second (g .First·Device .flash (c .args .first)) (g .Second·Device .flash (c .args .second)) (g .First·Device·met .proper (c .args .first));
+  proper = joined-proper (g .First·Device .flash (c .args .first)) (g .Second·Device .flash (c .args .second));
+  no-first = without-first (g .First·Device .flash (c .args .first)) (g .Second·Device .flash (c .args .second));
+  no-second = without-second (g .First·Device .flash (c .args .first)) (g .Second·Device .flash (c .args .second));
   whole = rejoins (g .First·Device .flash (c .args .first)) (g .Second·Device .flash (c .args .second));
 }
