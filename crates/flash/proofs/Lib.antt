@@ -5,3 +5,4 @@ pub mod Properly
 pub mod Rejoined
 pub mod Patches
 pub mod Chips
+pub mod Blanks

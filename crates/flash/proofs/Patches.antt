@@ -1,15 +1,15 @@
 -- What a patch of bytes leaves, and what it puts there.
-use Prim.Native.Nat.{ℕ, _+_, _-_, _*_, _/_, _%_, _^_, _<_, _≤_}
+use Prim.Native.Nat.{ℕ, zero, suc, _+_, _-_, _*_, _/_, _%_, _^_, _<_, _≤_}
 use lib.ListN.{length, getD, take, drop, replicate, length-replicate}
 use mathlib.Core.List.{List, [], _∷_, _++_}
 use mathlib.Core.Logic.{⊎-elim}
-use mathlib.Core.Path.{_≡_, refl, sym, _∙_, ap}
-use native.Mathlib.Nat.{div-div-eq-div-mul}
+use mathlib.Core.Path.{_≡_, refl, sym, _∙_, ap, subst}
 use native.Mathlib.Omega.{arith}
 use borrow.Author.Needs.{needs}
-use Rattle.std.proofs.shelf.Lists.{places, same-lists}
+use Rattle.std.proofs.shelf.Lists.{places, same-lists, getD-replicate}
 use Rattle.std.proofs.shelf.Tests.{cases-lt}
 use Rattle.flash.specs.Patched.{patched, all-patched}
+use Rattle.image.proofs.Words.{word-of}
 use Rattle.image.specs.Format.{word, word-bytes}
 
 module _ (bs : List ℕ) (a : ℕ) (ys : List ℕ) (fits : a + length ys ≤ length bs) where
@@ -46,17 +46,6 @@ module _ (bs : List ℕ) (a : ℕ) (ys : List ℕ) (fits : a + length ys ≤ len
   part-in : (n : ℕ) → length ys ≡ n → take n (drop a (patched bs a ys)) ≡ ys
   unfolding patched
   part-in n e = same-lists _ _ (search (needs, places)) (λ i d j. search (needs, places))
-
--- a number is made of its four bytes
-word-of : (n : ℕ) → n < 2 ^ 32 → n % 256 + n / 256 % 256 * 256 + n / 65536 % 256 * 65536 + n / 16777216 % 256 * 16777216 ≡ n
-word-of n h =
-    let a : n / 256 / 256 ≡ n / 65536 = div-div-eq-div-mul n 256 256 in
-    let b : n / 65536 / 256 ≡ n / 16777216 = div-div-eq-div-mul n 65536 256 in
-    let p : n % 256 + n / 256 * 256 ≡ n = omega arith in
-    let q : n / 256 % 256 + n / 65536 * 256 ≡ n / 256 = rw (sym a) (omega arith) in
-    let r : n / 65536 % 256 + n / 16777216 * 256 ≡ n / 65536 = rw (sym b) (omega arith) in
-    let s : n / 16777216 % 256 ≡ n / 16777216 = omega arith in
-    omega arith
 
 word-in : (bs : List ℕ) (a n : ℕ) → a + 4 ≤ length bs → n < 2 ^ 32 → word (patched bs a (word-bytes n)) a ≡ n
 unfolding word
@@ -126,3 +115,49 @@ module _ (bs : List ℕ) (ps : List (ℕ × List ℕ)) (w : Within (length bs) p
       let f : a + length ys ≤ length bs = omega arith in
       let e = length-patched bs a ys f in
       part-apart (patched bs a ys) ps a n (omega arith) (within-same _ _ ps e w) apart ∙ part-in bs a ys f n l
+
+-- Patches in the order of their places, from byte k on.
+abbrev pub Rising : ℕ → List (ℕ × List ℕ) → Type 0
+Rising k [] = Unit {0}
+Rising k (x ∷ ps) = (k ≤ x .0) × Rising (x .0 + length (x .1)) ps
+
+rising-apart : (ps : List (ℕ × List ℕ)) (low k n : ℕ) → Rising low ps → k + n ≤ low → Apart ps k n
+rising-apart [] low k n r h = tt
+rising-apart (x ∷ ps) low k n r h = (λ m. absurd (omega (arith, r .0)), rising-apart ps (x .0 + length (x .1)) k n (r .1) (omega (arith, r .0)))
+
+-- Patch i of all is y.
+abbrev pub Has : List (ℕ × List ℕ) → ℕ → ℕ × List ℕ → Type 0
+Has [] i y = ⊥
+Has (x ∷ ps) zero y = x ≡ y
+Has (x ∷ ps) (suc i) y = Has ps i y
+
+-- Each of them is found where it was put.
+pub word-among : (bs : List ℕ) (ps : List (ℕ × List ℕ)) (i low a n : ℕ) → Within (length bs) ps → Rising low ps → Has ps i (a, word-bytes n) → n < 2 ^ 32 →
+    word (all-patched bs ps) a ≡ n
+word-among bs [] i low a n w r e small = absurd e
+word-among bs (x ∷ ps) zero low a n w r e small =
+    let Put : ℕ × List ℕ → Type 0 = λ y. Within (length bs) (y ∷ ps) → Rising low (y ∷ ps) → word (all-patched bs (y ∷ ps)) a ≡ n in
+    subst Put (sym e) (λ v q. word-put bs ps (v .1) a n (v .0) small (rising-apart ps (a + 4) a 4 (q .1) (omega arith))) w r
+word-among bs (x ∷ ps) (suc i) low a n w r e small =
+    let l = length-patched bs (x .0) (x .1) (w .0) in
+    word-among (patched bs (x .0) (x .1)) ps i (x .0 + length (x .1)) a n (within-same _ _ ps l (w .1)) (r .1) e small
+
+pub run-among : (bs : List ℕ) (ps : List (ℕ × List ℕ)) (i low a n v k : ℕ) → Within (length bs) ps → Rising low ps → Has ps i (a, replicate n v) →
+    a ≤ k → k + 4 ≤ a + n → word (all-patched bs ps) k ≡ v + v * 256 + v * 65536 + v * 16777216
+run-among bs [] i low a n v k w r e h j = absurd e
+run-among bs (x ∷ ps) zero low a n v k w r e h j =
+    let Put : ℕ × List ℕ → Type 0 = λ y. Within (length bs) (y ∷ ps) → Rising low (y ∷ ps) →
+    word (all-patched bs (y ∷ ps)) k ≡ v + v * 256 + v * 65536 + v * 16777216 in
+    let l : length (replicate n v) ≡ n = length-replicate n v in
+    subst Put (sym e)
+    (λ u q. run-put bs ps (u .1) a n v k (omega (arith, u .0)) h j
+    (rising-apart ps (a + length (replicate n v)) k 4 (q .1) (omega arith))) w r
+run-among bs (x ∷ ps) (suc i) low a n v k w r e h j =
+    let l = length-patched bs (x .0) (x .1) (w .0) in
+    run-among (patched bs (x .0) (x .1)) ps i (x .0 + length (x .1)) a n v k (within-same _ _ ps l (w .1)) (r .1) e h j
+
+-- A number of bytes that are all v.
+pub word-all : (n v k : ℕ) → k + 4 ≤ n → word (replicate n v) k ≡ v + v * 256 + v * 65536 + v * 16777216
+unfolding word
+word-all n v k h = rw
+    (getD-replicate n k v 0 (omega arith), getD-replicate n (k + 1) v 0 (omega arith), getD-replicate n (k + 2) v 0 (omega arith), getD-replicate n (k + 3) v 0 (omega arith))

@@ -6,3 +6,4 @@ pub mod Windowed
 pub mod Laws
 pub mod Patched
 pub mod Stored
+pub mod BlankImage

@@ -1,12 +1,13 @@
 -- What the bytes of an image mean as a device, and which of them a program and an erase change.
 use Prim.Native.Nat.{ℕ, _+_, _*_, _≤_}
-use lib.Dec.{eqb, ltb, leb}
+use lib.Dec.{eqb, ltb}
 use lib.ListN.{length, take, drop, replicate}
 use mathlib.Core.Bool.{Bool, cond, _&&_}
 use mathlib.Core.List.{List, [], _∷_}
 use mathlib.Core.Path.{_≡_}
 use Rattle.flash.specs.Meaning.{Page, blank, holds, Flash}
 use Rattle.flash.specs.Patched.{all-patched}
+use Rattle.image.specs.Shape.{ranged}
 use Rattle.image.specs.declared.shape.Geometry.{Geometry}
 use Rattle.image.specs.Format.{
   word,
@@ -54,7 +55,7 @@ image-flash bs = image-in bs (geometry-by (checked bs))
 
 -- Whether n bytes can be the image of b blocks, p pages and the life l.
 abbrev pub in-shape : ℕ → ℕ → ℕ → ℕ → Bool
-in-shape n b p l = leb 1 b && (leb b 4096 && (leb 1 p && (leb p 64 && (leb 1 l && (leb l 100000 && eqb n (image-length b p))))))
+in-shape n b p l = ranged b p l && eqb (image-length b p) n
 
 -- What bytes mean to a chip that was told their geometry once, and does not read it again: nothing where it cannot be theirs.
 unfoldable pub shape-of : ℕ → Geometry → Geometry

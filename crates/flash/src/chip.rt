@@ -33,9 +33,6 @@ use crate::patch::put_number;
 use crate::patch::put_run;
 use image::check::check;
 use image::shape::Geometry;
-use image::shape::MOST_BLOCKS;
-use image::shape::MOST_LIFE;
-use image::shape::MOST_PAGES;
 
 #[derive(Drop)]
 pub struct ImageChip<'a> {
@@ -86,16 +83,10 @@ fn page_index(geometry: Geometry, block: Block, page: PageOffset) -> usize
 fn has_shape(length: usize, geometry: Geometry) -> bool
     ensures { λ r. ⌜ r ≡ in-shape length (geometry .blocks) (geometry .pages) (geometry .life) ⌝ }
 {
-    1 <= geometry.blocks
-        && geometry.blocks <= MOST_BLOCKS
-        && 1 <= geometry.pages
-        && geometry.pages <= MOST_PAGES
-        && 1 <= geometry.life
-        && geometry.life <= MOST_LIFE
-        && length
-            == 32
-                + 4 * geometry.blocks as usize
-                + 520 * (geometry.blocks as usize * geometry.pages as usize)
+    match geometry.image_length() {
+        Some(room) => room == length,
+        None => false,
+    }
 }
 
 // The geometry that the bytes state, and nothing where the check refuses them.

@@ -1,5 +1,6 @@
 // Raw NAND flash devices: what one means, and three kinds of them.
 
+pub mod blank;
 pub mod chip;
 pub mod device;
 pub mod join;
