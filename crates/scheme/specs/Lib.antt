@@ -1,0 +1,11 @@
+pub mod Functions
+pub mod Tables
+pub mod Place
+pub mod Roles
+pub mod Work
+pub mod Steps
+pub mod Asks
+pub mod Ledger
+pub mod Runs
+pub mod Law
+pub mod Bench
