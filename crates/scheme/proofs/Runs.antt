@@ -325,8 +325,12 @@ part-more P a w pos h =
 -- what the fit check grants
 pub record Fits (f : Flash) (L R : ℕ) : Type 0 where
   pub pages : 1 < f .pages
+  pub few-pages : f .pages ≤ 32
+  pub few-blocks : f .blocks ≤ 512
   pub some-L : 0 < L
+  pub few-L : L ≤ 480
   pub some-R : 0 < R
+  pub few-R : R ≤ 16
   pub wide : L + R + 2 ≤ f .blocks
   pub small : L * f .pages ≤ 0xFFFFFFFF
   pub unworn : (b : ℕ) → b < f .blocks → f .count b < f .life
@@ -346,8 +350,12 @@ fits f L R e =
           let g = and-parts _ _ (d .0) in
           record {
             pages = leb-true 2 (f .pages) (and-parts _ _ (g .0) .0);
+            few-pages = leb-true (f .pages) 32 (and-parts _ _ (g .0) .1);
+            few-blocks = leb-true (f .blocks) 512 (g .1);
             some-L = leb-true 1 L (and-parts _ _ (c .1) .0);
+            few-L = leb-true L 480 (and-parts _ _ (c .1) .1);
             some-R = leb-true 1 R (and-parts _ _ (b .1) .0);
+            few-R = leb-true R 16 (and-parts _ _ (b .1) .1);
             wide = leb-true (L + R + 2) (f .blocks) (a .1);
             small = narrow L (f .pages) (leb-true L 480 (and-parts _ _ (c .1) .1)) (leb-true (f .pages) 32 (and-parts _ _ (g .0) .1));
             unworn = λ b i. leb-false (f .life) (f .count b) (none-below (f .blocks) (λ b. leb (f .life) (f .count b)) (young (rw (h, fit) at e)) b i);

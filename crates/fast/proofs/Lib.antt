@@ -1,0 +1,15 @@
+pub mod Measures
+pub mod Entries
+pub mod Counts
+pub mod Places
+pub mod Carried
+pub mod Starts
+pub mod Visited
+pub mod Rooms
+pub mod Accepted
+pub mod Worn
+pub mod Rising
+pub mod Erased
+pub mod Formatted
+pub mod Barred
+pub mod Turns

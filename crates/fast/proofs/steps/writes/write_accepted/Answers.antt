@@ -1,0 +1,60 @@
+use Prim.Native.Nat.{ℕ, _+_, _*_, _-_, _/_, _%_, _<_, _≤_}
+use mathlib.Core.Path.{_≡_, refl, _∙_, ap, ap₂, sym, subst}
+use mathlib.Core.List.{_∷_, []}
+use native.Mathlib.Omega.{arith}
+use native.Mathlib.Nat.{div-lt-iff-lt-mul, mul-le-mul-left}
+use lib.ListN.{length, getD}
+use Rattle.std.specs.Of.Vec.{vec-items, vec-len}
+use Rattle.flash.specs.Meaning.{holds}
+use Rattle.flash.specs.Calls.{erased}
+use Rattle.scheme.specs.Steps.{visit, thinned, append-random, open-sequential}
+use Rattle.scheme.specs.Work.{each, put-page, seen}
+use Rattle.fast.specs.Views.{numbers, entries-view, sequential-of, sw-view}
+use Rattle.fast.specs.Meaning.{view-of}
+use Rattle.fast.specs.Leaves.{at, Left}
+use Rattle.fast.proofs.Counts.{getD-numbers}
+use Rattle.fast.proofs.Entries.{length-views}
+use Rattle.fast.proofs.Rooms.{length-numbers, reclaimed, thin-already, thin-now, room-already, room-made, appended, random-written, start-written, next-written, past-written, back-written}
+use native.Mathlib.Nat.{mod-lt}
+use Rattle.flash.specs.Calls.{is-blank}
+use Rattle.fast.proofs.Accepted.{blank-written, used-written}
+use Rattle.fast.proofs.steps.writes.write_accepted.Needs as need
+
+pub write-first-requires : need.write-first-requires
+write-first-requires g c κs =
+    let t = c .args .tables in
+    let pos : 0 < t .sizes .pages = omega (arith, t .sizes .«pages_fit») in
+    let known : c .args .sector .0 / t .sizes .pages < t .sizes .logical = div-lt-iff-lt-mul pos .1 (c .pre .known) in
+    record { known = known }
+
+pub overwrite-tables-requires : need.overwrite-tables-requires
+overwrite-tables-requires g c κs =
+    let t = c .args .tables in
+    let pos : 0 < t .sizes .pages = omega (arith, t .sizes .«pages_fit») in
+    let known : c .args .sector .0 / t .sizes .pages < t .sizes .logical = div-lt-iff-lt-mul pos .1 (c .pre .known) in
+    record { known = known; fits = mod-lt (c .args .sector .0) pos; sector = c .pre .known }
+
+pub returns-then-first : need.returns-then-first
+returns-then-first g c =
+    let t = c .args .tables in
+    let flash = g .D·Device .flash in
+    let n = c .args .sector .0 in
+    let s = at (flash (c .args .device .now)) (view-of t) in
+    record {
+      work = blank-written (t .sizes .pages) (t .sizes .random) n (c .args .bytes .now) s (flash (c .write-first .last .device)) (view-of t) (view-of (c .stamp .result)) 0 0 (c .stamp .ensures .tables) (sym (c .if-first .taken) ∙ c .pre .found) (c .write-first .ensures);
+      sized = c .stamp .ensures .sized;
+    }
+
+pub returns : need.returns
+returns g c =
+    let t = c .args .tables in
+    let flash = g .D·Device .flash in
+    let n = c .args .sector .0 in
+    let s = at (flash (c .args .device .now)) (view-of t) in
+    let d = c .overwrite-tables .ensures in
+    let r = c .stamp-2 .ensures in
+    let v = c .overwrite-tables .result .tables in
+    record {
+      work = used-written (t .sizes .pages) (t .sizes .random) n (c .args .bytes .now) s (flash (c .overwrite-tables .last .device)) (view-of v) (view-of (c .stamp-2 .result)) _ _ (r .tables) (sym (c .if-first .left) ∙ c .pre .found) (d .work);
+      sized = r .sized ∙ d .sized .0;
+    }

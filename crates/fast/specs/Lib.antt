@@ -1,0 +1,6 @@
+pub mod Views
+pub mod Rules
+pub mod Roles
+pub mod Meaning
+pub mod Leaves
+pub mod Told
