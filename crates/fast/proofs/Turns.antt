@@ -1,6 +1,6 @@
 -- A call of the layer, by what its parts found.
 use Prim.Native.Nat.{ℕ, _+_, _*_, _<_, _≤_}
-use mathlib.Core.Path.{_≡_, refl, sym, _∙_, ap, ap₂}
+use mathlib.Core.Path.{_≡_, refl, sym, _∙_, ap, ap₂, subst₂}
 use mathlib.Core.Logic.{_≢_}
 use mathlib.Core.List.{List, []}
 use native.Mathlib.Omega.{arith}
@@ -9,14 +9,28 @@ use Rattle.std.specs.declared.option.Option.{Option}
 use Rattle.std.specs.declared.option.Option.the-variants.{Some, None}
 use Rattle.std.proofs.shelf.Tests.{le-ltb, lt-ltb, eq-eqb, ne-eqb}
 use Rattle.flash.specs.Meaning.{Flash}
-use Rattle.scheme.specs.Ledger.{Reply, refused, wrote, write, read, reads, shown}
-use Rattle.scheme.specs.Runs.{Layer, Outcome, sectors, unchanged, call, write-refusal, content}
+use Rattle.scheme.proofs.Runs.{every-run-is-lawful, every-call-is-lawful}
+use Rattle.scheme.specs.Law.{Begun, Lawful}
+use Rattle.scheme.specs.Ledger.{Call, Reply, refused, wrote, write, read, reads, shown}
+use Rattle.scheme.specs.Runs.{Start, Layer, Outcome, format, sectors, unchanged, call, write-refusal, content}
 use Rattle.scheme.specs.Steps.{write as write-steps}
 use Rattle.fast.specs.Leaves.{at, Left}
 use Rattle.fast.specs.Meaning.{view-of}
 use Rattle.fast.specs.Told.{meant}
 use Rattle.fast.specs.declared.tables.Sizes.{Sizes}
 use Rattle.fast.specs.declared.tables.Tables.{Tables}
+
+-- a layer that is the scheme's is a beginning
+pub begun : (start : Start) (y : Layer) → y ≡ format start → Begun start y
+begun start y e = record { reached = sym e; law = every-run-is-lawful start [] }
+
+-- a call that replies and leaves what the scheme's does is lawful
+pub lawful : (y z : Layer) (c : Call) (r : Reply) → r ≡ call y c .reply → z ≡ call y c .after → Lawful y c r z
+lawful y z c r e f = subst₂ (Lawful y c) (sym e) (sym f) (every-call-is-lawful y c)
+
+pub read-lawful : (y : Layer) (n : ℕ) (buffer : List ℕ) (r : Reply) → r ≡ call y (read n buffer) .reply → Lawful y (read n buffer) r y
+unfolding call
+read-lawful y n buffer r e = lawful y y (read n buffer) r e refl
 
 -- what a write replies and leaves
 pub record Written (y z : Layer) (n : ℕ) (bytes : List ℕ) (r : Reply) : Type 0 where

@@ -2,6 +2,10 @@
 //
 // The layer of no sectors has no tables: that is what becomes of a device that the fit check refuses. A call answers by the checks first,
 // in the order of `Refusal`, and a refused call changes nothing.
+//
+// Each call says twice what it does. The clauses `reply` and `after` are equations with the scheme's call, for every layer. The clause
+// `law` says what that is worth: for every device, every arguments of format and every list of calls that lead to the layer before it, the
+// layer after it is reached by one call more, and the law of runs holds of all of them with this reply.
 
 ghost use Prim.Native.Nat.{_*_, _/_, _%_, _<_};
 ghost use lib.ListN.{length};
@@ -10,6 +14,7 @@ ghost use mathlib.Core.Path.{_≡_};
 ghost use Rattle.std.specs.Vec.{made, refused};
 ghost use Rattle.std.specs.declared.option.Option.the-variants.{Some, None};
 ghost use Rattle.flash.specs.Calls.{is-blank};
+ghost use Rattle.scheme.specs.Law.{Begun, Lawful};
 ghost use Rattle.scheme.specs.Ledger.{read, write, shown};
 ghost use Rattle.scheme.specs.Runs.{sectors, format, call, worn, write-refusal};
 ghost use Rattle.scheme.specs.Tables.{Tables as Scheme-tables};
@@ -122,6 +127,7 @@ impl<D: Device> Layer<D> {
         first: u32,
     ) -> Result<Layer<D>, (D, AllocError)>
         ensures after { λ r. ⌜ made r (λ y. layer-of (D·Device .flash) y ≡ format (started (D·Device .flash device) logical random first)) ⌝ }
+        ensures law { λ r. ⌜ made r (λ y. Begun (started (D·Device .flash device) logical random first) (layer-of (D·Device .flash) y)) ⌝ }
         ensures untouched { λ r. ⌜ refused r (λ e. e .0 ≡ device) ⌝ }
     {
         if let Err(_) = fit(&device, logical, random, first) {
@@ -162,6 +168,7 @@ impl<D: Device> Layer<D> {
     // Reads a sector into the buffer, which is filled with 0xFF where it was never written.
     pub fn read(&self, sector: Sector, buffer: &mut [u8]) -> Result<Found, Refusal>
         ensures reply { λ r. ⌜ read-told r (now (buffer .exit)) ≡ call (layer-of (D·Device .flash) (now (self .entry))) (read (sector .0) (now (buffer .entry))) .reply ⌝ }
+        ensures law { λ r. ⌜ Lawful (layer-of (D·Device .flash) (now (self .entry))) (read (sector .0) (now (buffer .entry))) (read-told r (now (buffer .exit))) (layer-of (D·Device .flash) (now (self .entry))) ⌝ }
     {
         let Some(tables) = &self.tables else {
             return Err(Refusal::NoSuchSector);
@@ -179,9 +186,10 @@ impl<D: Device> Layer<D> {
     }
 
     // Writes a sector. Answers the blocks erased and the pages copied for it.
-    fn write(&mut self, sector: Sector, bytes: &[u8]) -> Result<(u32, u32), Refusal>
+    pub fn write(&mut self, sector: Sector, bytes: &[u8]) -> Result<(u32, u32), Refusal>
         ensures reply { λ r. ⌜ write-told r (now (bytes .exit)) ≡ call (layer-of (D·Device .flash) (now (self .entry))) (write (sector .0) (now (bytes .entry))) .reply ⌝ }
         ensures after { λ r. ⌜ layer-of (D·Device .flash) (now (self .exit)) ≡ call (layer-of (D·Device .flash) (now (self .entry))) (write (sector .0) (now (bytes .entry))) .after ⌝ }
+        ensures law { λ r. ⌜ Lawful (layer-of (D·Device .flash) (now (self .entry))) (write (sector .0) (now (bytes .entry))) (write-told r (now (bytes .exit))) (layer-of (D·Device .flash) (now (self .exit))) ⌝ }
     {
         let Some(tables) = self.tables.take() else {
             return Err(Refusal::NoSuchSector);

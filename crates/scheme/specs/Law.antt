@@ -70,6 +70,11 @@ Every-run-is-lawful = (start : Start) (calls : List Call) → Law start calls (r
 abbrev pub Reached : Start → List Call → Layer → Type 0
 Reached start calls y = reached start calls ≡ y
 
+-- What format gives: the layer is reached from the start by no calls, and the law holds of these.
+pub record Begun (start : Start) (y : Layer) : Type 0 where
+  pub reached : Reached start [] y
+  pub law : Law start [] []
+
 -- What one call adds, wherever it is made: for every start and every calls that lead to the layer before it, the layer after it is
 -- reached by one call more, and the law holds of these calls with this reply.
 abbrev pub Lawful : Layer → Call → Reply → Layer → Type 0
