@@ -13,3 +13,4 @@ pub mod Erased
 pub mod Formatted
 pub mod Barred
 pub mod Turns
+pub mod Played

@@ -63,6 +63,10 @@ accepted-write f g t u n bytes e k none left z =
 
 -- a read, check by check
 module _ (y : Layer) (n : ℕ) (buffer : List ℕ) where
+  pub read-after : y ≡ call y (read n buffer) .after
+  unfolding call
+  read-after = refl
+
   pub read-no-sector : sectors y ≤ n → record { answer = refused 13; buffer = buffer } ≡ call y (read n buffer) .reply
   unfolding call
   read-no-sector h = rw (call, reads, le-ltb n (sectors y) h) refl

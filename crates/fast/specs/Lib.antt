@@ -4,3 +4,4 @@ pub mod Roles
 pub mod Meaning
 pub mod Leaves
 pub mod Told
+pub mod Replay

@@ -8,6 +8,7 @@ pub mod fit;
 pub mod layer;
 pub mod numbers;
 pub mod refusal;
+pub mod replay;
 pub mod roles;
 mod start;
 mod steps;

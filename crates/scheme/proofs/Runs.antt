@@ -21,7 +21,7 @@ use Rattle.scheme.specs.Law.{told, all-told, erases, Call-counted, Roles-right
 use Rattle.scheme.specs.Ledger.{Call, read, write, Answer, refused, wrote, Reply, Ledger, shown, reads, empty, entered, ledger-next, ledger-after, Answered, All-answered}
 use Rattle.scheme.specs.Place.{place}
 use Rattle.scheme.specs.Roles.{Led, Tables-right, led, role-of}
-use Rattle.scheme.specs.Runs.{Start, Layer, Outcome, unchanged, call, write-refusal, replaces, worn, content, Turn, turns, last-layer, most-erases, format, fit, geometry-fits, nothing, no-tables}
+use Rattle.scheme.specs.Runs.{Start, Layer, Outcome, unchanged, call, write-refusal, replaces, worn, content, Turn, turns, last-layer, replies-of, most-erases, format, fit, geometry-fits, nothing, no-tables}
 use Rattle.scheme.specs.Steps.{page-of, seen-of, formatted, write as write-steps}
 use Rattle.scheme.specs.Tables.{Tables}
 use Rattle.scheme.specs.Work.{State, Work, Moment, seen, line}
@@ -33,10 +33,6 @@ use Rattle.scheme.proofs.Held.{Inv}
 use Rattle.scheme.proofs.Overwrites.{Wrote, charge}
 use Rattle.scheme.proofs.Accepted.{writes}
 use Rattle.scheme.proofs.Formats.{formats, format-cleans}
-
--- the replies of calls on a layer
-abbrev pub replies-of : Layer → List Call → List Reply
-replies-of y cs = map (λ (t : Turn). t .outcome .reply) (turns y cs)
 
 -- what holds of the rest of a run, with E erases so far
 pub record Kept (P L : ℕ) (y : Layer) (g : Ledger) (E : ℕ) (cs : List Call) : Type 0 where
@@ -434,11 +430,11 @@ every-run-is-lawful start cs =
     let b : Borne (format start) cs = bears start cs (fit (start .device) (start .logical) (start .random)) refl in
     lawful-from start cs (b .kept) (b .bound)
 
-last-push : (y : Layer) (cs : List Call) (c : Call) → last-layer y (cs ++ (c ∷ [])) ≡ call (last-layer y cs) c .after
+pub last-push : (y : Layer) (cs : List Call) (c : Call) → last-layer y (cs ++ (c ∷ [])) ≡ call (last-layer y cs) c .after
 last-push y [] c = refl
 last-push y (d ∷ cs) c = last-push (call y d .after) cs c
 
-replies-push : (y : Layer) (cs : List Call) (c : Call) → replies-of y (cs ++ (c ∷ [])) ≡ replies-of y cs ++ (call (last-layer y cs) c .reply ∷ [])
+pub replies-push : (y : Layer) (cs : List Call) (c : Call) → replies-of y (cs ++ (c ∷ [])) ≡ replies-of y cs ++ (call (last-layer y cs) c .reply ∷ [])
 replies-push y [] c = refl
 replies-push y (d ∷ cs) c = ap (λ rs. call y d .reply ∷ rs) (replies-push (call y d .after) cs c)
 

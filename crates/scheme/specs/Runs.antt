@@ -129,7 +129,7 @@ pub record Turn : Type 0 where
   pub before : Layer
   pub outcome : Outcome
 
--- the turns of calls on a layer, and the layer after them
+-- the turns of calls on a layer, the layer after them, and their replies
 abbrev pub turns : Layer → List Call → List Turn
 turns y [] = []
 turns y (c ∷ cs) = record { before = y; outcome = call y c } ∷ turns (call y c .after) cs
@@ -137,6 +137,9 @@ turns y (c ∷ cs) = record { before = y; outcome = call y c } ∷ turns (call y
 abbrev pub last-layer : Layer → List Call → Layer
 last-layer y [] = y
 last-layer y (c ∷ cs) = last-layer (call y c .after) cs
+
+abbrev pub replies-of : Layer → List Call → List Reply
+replies-of y cs = map (λ t. t .outcome .reply) (turns y cs)
 
 -- the run of calls from a start on, the layer that it comes to, and its replies
 abbrev pub run : Start → List Call → List Turn
@@ -146,4 +149,4 @@ abbrev pub reached : Start → List Call → Layer
 reached start calls = last-layer (format start) calls
 
 abbrev pub replies : Start → List Call → List Reply
-replies start calls = map (λ t. t .outcome .reply) (run start calls)
+replies start calls = replies-of (format start) calls
