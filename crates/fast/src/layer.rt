@@ -155,6 +155,22 @@ impl<D: Device> Layer<D> {
         }
     }
 
+    // The device below, for looking at: only the layer's own calls may change it.
+    pub fn device(&self) -> &D
+        ensures { λ r. ⌜ now r ≡ now (self .entry) .device ⌝ }
+    {
+        &self.device
+    }
+
+    // The device given up: the sectors stay on it, but the tables that find them are gone.
+    pub fn into_device(self) -> D
+        ensures { λ r. ⌜ r ≡ self .device ⌝ }
+    {
+        let Layer { device, tables } = self;
+        drop(tables);
+        device
+    }
+
     // How many sectors there are.
     pub fn sectors(&self) -> u32
         ensures { λ r. ⌜ r ≡ sectors (layer-of (D·Device .flash) (now (self .entry))) ⌝ }

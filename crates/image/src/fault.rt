@@ -7,6 +7,7 @@ ghost use mathlib.Core.Path.{_≡_};
 ghost use Rattle.image.specs.Report.{problem-text, number-text, section-text, image-text};
 ghost use Rattle.image.specs.Told.{problem-number, section-number, in-named};
 ghost use Rattle.std.specs.declared.option.Option.the-variants.{Some};
+use std::error::Error;
 use std::fmt;
 
 // What is wrong.
@@ -159,3 +160,5 @@ pub impl fmt::Display for ImageFault as ImageFaultDisplay {
         write!(f, "no chip image: {fault}")
     }
 }
+
+pub impl Error for ImageFault as ImageFaultError {}
