@@ -235,11 +235,12 @@ pub impl<'a> Device for ImageChip<'a> as ImageChipDevice {
         if bytes.len() != SECTOR_SIZE {
             return Err(Refusal::BufferNotASector);
         }
+        let at = page_places(shape, page_index(shape, block, page));
+        let held = self.number(at.sector);
         if mark.sector.0 == NO_SECTOR {
             return Err(Refusal::SectorNumberReserved);
         }
-        let at = page_places(shape, page_index(shape, block, page));
-        if self.number(at.sector) != NO_SECTOR {
+        if held != NO_SECTOR {
             return Err(Refusal::PageNotBlank);
         }
         put_page(self.bytes, at, mark, bytes);

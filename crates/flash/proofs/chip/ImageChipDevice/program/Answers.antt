@@ -4,8 +4,8 @@ use native.Mathlib.Omega.{arith}
 use Rattle.flash.proofs.Chips.{chip-blank, chip-holds, after-program}
 use Rattle.flash.proofs.chip.ImageChipDevice.program.Needs as need
 
-pub returns-then-number : need.returns-then-number
-returns-then-number c =
+pub returns-then-held : need.returns-then-held
+returns-then-held c =
     let e = chip-holds (c .args .self .now .bytes .now) (c .args .self .now .geometry) (c .shape-shape .result) (c .shape-shape .ensures .own (omega arith)) (c .shape-shape .ensures .fits (omega arith)) (c .args .block .0) (c .args .page .0) (omega arith) (omega arith) (search needs) in
     record { answer = search needs; after = search needs; bytes = search needs; image = λ k. (refl, k) }
 
