@@ -49,7 +49,7 @@ impl<First: Device, Second: Device> Join<First, Second> {
         ensures { λ r. ⌜ Lies (First·Device .flash (now (self .entry) .first)) (Second·Device .flash (now (self .entry) .second)) (block .0) r ⌝ }
     {
         let first = self.first.blocks();
-        if block.0 >= first.saturating_add(self.second.blocks()).min(MOST_BLOCKS) {
+        if block.0 >= self.blocks() {
             return Err(Refusal::NoSuchBlock);
         }
         if block.0 < first {
