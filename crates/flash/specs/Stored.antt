@@ -45,11 +45,12 @@ image-in bs g = image-of bs (g .blocks) (g .pages) (g .life)
 abbrev pub nothing : Geometry
 nothing = record { blocks = 0; pages = 0; life = 0 }
 
--- What bytes mean: the device that they are the image of, and one without blocks, pages and life where the check refuses them.
+-- The geometry that the check finds, and none where it refuses the bytes.
 abbrev pub geometry-by : Checked → Geometry
 geometry-by (accepted b p l) = record { blocks = b; pages = p; life = l }
 geometry-by (faulty m s k) = nothing
 
+-- What bytes mean: the device that they are the image of, and one without blocks, pages and life where the check refuses them.
 unfoldable pub image-flash : List ℕ → Flash
 image-flash bs = image-in bs (geometry-by (checked bs))
 
@@ -57,12 +58,23 @@ image-flash bs = image-in bs (geometry-by (checked bs))
 abbrev pub in-shape : ℕ → ℕ → ℕ → ℕ → Bool
 in-shape n b p l = ranged b p l && eqb (image-length b p) n
 
--- What bytes mean to a chip that was told their geometry once, and does not read it again: nothing where it cannot be theirs.
+-- The geometry that n bytes have, to a chip that was told g: nothing where g cannot be theirs.
 unfoldable pub shape-of : ℕ → Geometry → Geometry
 shape-of n g = cond (in-shape n (g .blocks) (g .pages) (g .life)) g nothing
 
+-- What bytes mean to a chip that was told their geometry once, and does not read it again.
 unfoldable pub chip-flash : List ℕ → Geometry → Flash
 chip-flash bs g = image-in bs (shape-of (length bs) g)
+
+-- The geometry g of a chip that does fit its n bytes.
+pub record Fits (n : ℕ) (g : Geometry) : Type 0 where
+  pub long : n ≡ image-length (g .blocks) (g .pages)
+  pub some-blocks : 1 ≤ g .blocks
+  pub most-blocks : g .blocks ≤ 4096
+  pub some-pages : 1 ≤ g .pages
+  pub most-pages : g .pages ≤ 64
+  pub some-life : 1 ≤ g .life
+  pub most-life : g .life ≤ 100000
 
 -- The bytes after page n is programmed: its sector number, its stamp and its bytes.
 abbrev pub image-programmed : List ℕ → ℕ → ℕ → ℕ → ℕ → ℕ → List ℕ → List ℕ
@@ -78,16 +90,6 @@ image-erased bs b p c =
     ∷ (stamp-place b p (c * p), replicate (4 * p) 0xFF)
     ∷ (bytes-place b p (c * p), replicate (512 * p) 0xFF)
     ∷ [])
-
--- The geometry g of a chip that does fit its n bytes.
-pub record Fits (n : ℕ) (g : Geometry) : Type 0 where
-  pub long : n ≡ image-length (g .blocks) (g .pages)
-  pub some-blocks : 1 ≤ g .blocks
-  pub most-blocks : g .blocks ≤ 4096
-  pub some-pages : 1 ≤ g .pages
-  pub most-pages : g .pages ≤ 64
-  pub some-life : 1 ≤ g .life
-  pub most-life : g .life ≤ 100000
 
 -- The same for page o of block c, and for block c, of a chip.
 abbrev pub chip-programmed : List ℕ → Geometry → ℕ → ℕ → ℕ → ℕ → List ℕ → List ℕ
