@@ -1,5 +1,7 @@
 -- What an answer of the code says, in the terms of `Calls`: each case with its number and its values.
 use Prim.Native.Nat.{ℕ}
+use lib.Chars.{codes}
+use mathlib.Core.List.{List}
 use Rattle.std.specs.declared.option.Option.{Option}
 use Rattle.std.specs.declared.option.Option.the-variants.{Some, None}
 use Rattle.std.specs.declared.result.Result.{Result}
@@ -17,6 +19,15 @@ refusal-number BufferNotASector = 3
 refusal-number SectorNumberReserved = 4
 refusal-number PageNotBlank = 5
 refusal-number BlockWornOut = 6
+
+-- And what it says in words.
+abbrev pub refusal-text : Refusal → List ℕ
+refusal-text NoSuchBlock = codes "no such block"
+refusal-text NoSuchPage = codes "no such page"
+refusal-text BufferNotASector = codes "the buffer is not 512 bytes long"
+refusal-text SectorNumberReserved = codes "the sector number is reserved"
+refusal-text PageNotBlank = codes "the page is not blank"
+refusal-text BlockWornOut = codes "the block is worn out"
 
 abbrev pub mark-told : Option Mark → Marking
 mark-told None = unmarked

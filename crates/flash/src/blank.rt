@@ -20,7 +20,6 @@ use crate::patch::put_number;
 use crate::patch::put_run;
 use image::fault::ImageFault;
 use image::fault::ImageFaultFrom;
-use image::fault::NumberFault;
 use image::fault::Problem;
 use image::fault::Section;
 use image::fault::SectionFault;
@@ -35,16 +34,10 @@ fn room(length: usize, section: Section, at: usize, size: usize) -> Result<usize
     ensures bound { λ r. ⌜ made r (λ e. (e ≡ at + 4 + size) × (e ≤ length)) ⌝ }
 {
     if length < 4 || length - 4 < at {
-        return section.within(Err(NumberFault {
-            problem: Problem::EndsInside,
-            byte: at,
-        }));
+        return section.within(Err(Problem::EndsInside.at(at)));
     }
     if length - (at + 4) < size {
-        return section.within(Err(NumberFault {
-            problem: Problem::EndsInside,
-            byte: at + 4,
-        }));
+        return section.within(Err(Problem::EndsInside.at(at + 4)));
     }
     Ok(at + 4 + size)
 }
@@ -55,10 +48,7 @@ fn in_range(at: usize, value: u32, most: u32) -> Result<u32, SectionFault>
     ensures bound { λ r. ⌜ made r (λ n. (n ≡ value) × (1 ≤ value) × (value ≤ most)) ⌝ }
 {
     if value < 1 || value > most {
-        return Section::Shape.within(Err(NumberFault {
-            problem: Problem::OutOfRange,
-            byte: at,
-        }));
+        return Section::Shape.within(Err(Problem::OutOfRange.at(at)));
     }
     Ok(value)
 }
@@ -69,10 +59,7 @@ fn no_rest(length: usize, at: usize) -> Result<usize, SectionFault>
     ensures bound { λ r. ⌜ made r (λ _. length ≤ at) ⌝ }
 {
     if at < length {
-        return Section::Contents.within(Err(NumberFault {
-            problem: Problem::Surplus,
-            byte: at,
-        }));
+        return Section::Contents.within(Err(Problem::Surplus.at(at)));
     }
     Ok(at)
 }

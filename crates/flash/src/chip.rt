@@ -223,6 +223,7 @@ pub impl<'a> Device for ImageChip<'a> as ImageChipDevice {
         ensures answer { λ r. ⌜ done-told r ≡ program-answer (chip-flash (held (now (self .entry) .bytes)) (now (self .entry) .geometry)) (block .0) (page .0) (mark .sector .0) (length (now (bytes .entry))) ⌝ }
         ensures after { λ _. ⌜ chip-flash (held (now (self .exit) .bytes)) (now (self .exit) .geometry) ≡ programmed (chip-flash (held (now (self .entry) .bytes)) (now (self .entry) .geometry)) (block .0) (page .0) (mark .sector .0) (mark .stamp) (now (bytes .entry)) ⌝ }
         ensures bytes { λ r. ⌜ held (now (self .exit) .bytes) ≡ cond (accepts (done-told r)) (chip-programmed (held (now (self .entry) .bytes)) (now (self .entry) .geometry) (block .0) (page .0) (mark .sector .0) (mark .stamp) (now (bytes .entry))) (held (now (self .entry) .bytes)) ⌝ }
+        ensures geometry { λ _. ⌜ now (self .exit) .geometry ≡ now (self .entry) .geometry ⌝ }
         ensures image { λ _. ⌜ Stays-image (held (now (self .entry) .bytes)) (chip-flash (held (now (self .entry) .bytes)) (now (self .entry) .geometry)) (held (now (self .exit) .bytes)) (chip-flash (held (now (self .exit) .bytes)) (now (self .exit) .geometry)) ⌝ }
     {
         let shape = self.shape();
@@ -251,6 +252,7 @@ pub impl<'a> Device for ImageChip<'a> as ImageChipDevice {
         ensures answer { λ r. ⌜ done-told r ≡ erase-answer (chip-flash (held (now (self .entry) .bytes)) (now (self .entry) .geometry)) (block .0) ⌝ }
         ensures after { λ _. ⌜ chip-flash (held (now (self .exit) .bytes)) (now (self .exit) .geometry) ≡ erased (chip-flash (held (now (self .entry) .bytes)) (now (self .entry) .geometry)) (block .0) ⌝ }
         ensures bytes { λ r. ⌜ held (now (self .exit) .bytes) ≡ cond (accepts (done-told r)) (chip-erased (held (now (self .entry) .bytes)) (now (self .entry) .geometry) (block .0)) (held (now (self .entry) .bytes)) ⌝ }
+        ensures geometry { λ _. ⌜ now (self .exit) .geometry ≡ now (self .entry) .geometry ⌝ }
         ensures image { λ _. ⌜ Stays-image (held (now (self .entry) .bytes)) (chip-flash (held (now (self .entry) .bytes)) (now (self .entry) .geometry)) (held (now (self .exit) .bytes)) (chip-flash (held (now (self .exit) .bytes)) (now (self .exit) .geometry)) ⌝ }
     {
         let shape = self.shape();

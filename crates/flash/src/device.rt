@@ -8,12 +8,14 @@ ghost use lib.ListN.{length};
 ghost use mathlib.Core.Path.{_≡_};
 ghost use Rattle.flash.specs.Calls.{read-answer, read-buffer, program-answer, programmed, erase-answer, erased, count-answer};
 ghost use Rattle.flash.specs.Meaning.{Flash};
-ghost use Rattle.flash.specs.Told.{refusal-number, read-told, done-told, count-told};
+ghost use Rattle.std.specs.declared.option.Option.the-variants.{Some};
+ghost use Rattle.flash.specs.Told.{refusal-number, refusal-text, read-told, done-told, count-told};
 use crate::numbers::Block;
 use crate::numbers::PageOffset;
 use crate::numbers::Sector;
 use crate::numbers::SectorDebug;
 use crate::numbers::SectorPartialEq;
+use std::fmt;
 
 // The bytes of a page, which are those of a sector.
 pub const SECTOR_SIZE: usize = 512;
@@ -51,6 +53,29 @@ impl Refusal {
             Refusal::PageNotBlank => 5,
             Refusal::BlockWornOut => 6,
         }
+    }
+
+    // The refusal in words.
+    pub fn reason(self) -> &'static str
+        ensures { λ r. ⌜ now r ≡ refusal-text self ⌝ }
+    {
+        match self {
+            Refusal::NoSuchBlock => "no such block",
+            Refusal::NoSuchPage => "no such page",
+            Refusal::BufferNotASector => "the buffer is not 512 bytes long",
+            Refusal::SectorNumberReserved => "the sector number is reserved",
+            Refusal::PageNotBlank => "the page is not blank",
+            Refusal::BlockWornOut => "the block is worn out",
+        }
+    }
+}
+
+pub impl fmt::Display for Refusal as RefusalDisplay {
+    ghost shown = { λ x. Some (refusal-text x) };
+
+    fn fmt<W: fmt::Write>(&self, f: &mut fmt::Formatter<W>) -> fmt::Result {
+        let reason = self.reason();
+        write!(f, "{reason}")
     }
 }
 

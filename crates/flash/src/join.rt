@@ -34,8 +34,7 @@ enum Side {
 impl<First: Device, Second: Device> Join<First, Second> {
     // Two devices as one. With a side that has no blocks it is the other side, and two windows that split a device make that device again.
     pub fn new(first: First, second: Second) -> Join<First, Second>
-        ensures first { λ r. ⌜ r .first ≡ first ⌝ }
-        ensures second { λ r. ⌜ r .second ≡ second ⌝ }
+        ensures made { λ r. ⌜ r ≡ record { first = first; second = second } ⌝ }
         ensures proper { λ _. ⌜ (Proper (First·Device .flash first) → Proper (Second·Device .flash second) → Proper (joined (First·Device .flash first) (Second·Device .flash second))) ⌝ }
         ensures no_first { λ _. ⌜ (Proper (Second·Device .flash second) → First·Device .flash first .blocks ≡ 0 → Second·Device .flash second .blocks ≤ 65536 → joined (First·Device .flash first) (Second·Device .flash second) ≡ Second·Device .flash second) ⌝ }
         ensures no_second { λ _. ⌜ (Proper (First·Device .flash first) → Second·Device .flash second .blocks ≡ 0 → 0 < First·Device .flash first .blocks → First·Device .flash first .blocks ≤ 65536 → joined (First·Device .flash first) (Second·Device .flash second) ≡ First·Device .flash first) ⌝ }

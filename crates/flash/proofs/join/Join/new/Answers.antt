@@ -5,8 +5,7 @@ use Rattle.flash.proofs.join.Join.new.Needs as need
 
 pub returns : need.returns
 returns g c = record {
-  first = refl;
-  second = refl;
+  made = refl;
   proper = joined-proper (g .First·Device .flash (c .args .first)) (g .Second·Device .flash (c .args .second));
   no-first = without-first (g .First·Device .flash (c .args .first)) (g .Second·Device .flash (c .args .second));
   no-second = without-second (g .First·Device .flash (c .args .first)) (g .Second·Device .flash (c .args .second));
