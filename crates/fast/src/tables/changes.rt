@@ -39,7 +39,7 @@ impl Tables {
         let new = free.take();
         let old = map[c.0 as usize];
         map[c.0 as usize] = new;
-        rw.expire(Sector(c.0 * sizes.pages), sizes.pages);
+        rw.expire_block(c, sizes.pages);
         free.put(old);
         (
             Tables {
@@ -74,7 +74,7 @@ impl Tables {
         let c = sw.owner;
         let old = map[c.0 as usize];
         map[c.0 as usize] = sw.block;
-        rw.expire(Sector(c.0 * sizes.pages), sizes.pages);
+        rw.expire_block(c, sizes.pages);
         free.put(old);
         (
             Tables {
@@ -110,7 +110,7 @@ impl Tables {
         let new = free.take();
         let old = map[c.0 as usize];
         map[c.0 as usize] = new;
-        rw.expire(Sector(c.0 * sizes.pages), sizes.pages);
+        rw.expire_block(c, sizes.pages);
         free.put(old);
         free.put(sw.block);
         (
@@ -160,10 +160,10 @@ impl Tables {
     }
 
     // A sector is in the next page of the sequential log block.
-    pub(crate) fn extend(self, sw: Sw, sector: Sector) -> Tables
+    pub(crate) fn extend(self, sw: Sw, taken: Sector) -> Tables
         requires has { ⌜ self .sw ≡ Some sw ⌝ }
         requires short { ⌜ sw .fill < self .sizes .pages ⌝ }
-        ensures tables { λ r. ⌜ view-of r ≡ with-sequential (Some (record { owner = sw .owner .0; block = sw .block .0; fill = sw .fill + 1 })) (with-random (view-of self .logs) (stale-all (λ m. eqb m (sector .0)) (view-of self .entries)) (view-of self)) ⌝ }
+        ensures tables { λ r. ⌜ view-of r ≡ with-sequential (Some (record { owner = sw .owner .0; block = sw .block .0; fill = sw .fill + 1 })) (with-random (view-of self .logs) (stale-all (λ m. eqb m (taken .0)) (view-of self .entries)) (view-of self)) ⌝ }
         ensures sized { λ r. ⌜ Sized r self ⌝ }
     {
         let Tables {
@@ -176,7 +176,7 @@ impl Tables {
         } = self;
         let mut longer = sw;
         longer.extend();
-        rw.expire(sector, 1);
+        rw.expire_sector(taken);
         Tables {
             sizes,
             map,
@@ -231,7 +231,7 @@ impl Tables {
             free,
             next,
         } = self;
-        rw.expire(sector, 1);
+        rw.expire_sector(sector);
         rw.append(sector);
         Tables {
             sizes,

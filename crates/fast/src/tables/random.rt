@@ -3,7 +3,8 @@
 // Blocks and entries stand oldest first. Only filled pages have an entry, so entry i is that of page i mod P of block i div P, the next
 // page to fill is at the number of entries, and "all full but perhaps the last" is a bound on two lengths.
 
-ghost use Prim.Native.Nat.{_+_, _-_, _<_, _≤_};
+ghost use Prim.Native.Nat.{_+_, _-_, _*_, _/_, _^_, _<_, _≤_};
+ghost use lib.Dec.{eqb};
 ghost use lib.ListN.{length, drop, getD};
 ghost use mathlib.Core.List.{[], _∷_, _++_};
 ghost use mathlib.Core.Path.{_≡_};
@@ -12,6 +13,7 @@ ghost use Rattle.std.specs.Options.{Cases as BySome};
 ghost use Rattle.scheme.specs.Place.{entry-of};
 ghost use Rattle.scheme.specs.Tables.{stale-all, live};
 ghost use Rattle.fast.specs.Views.{numbers, entries-view, expired-entry, in-run};
+use crate::numbers::LogicalBlock;
 use flash::numbers::Block;
 use flash::numbers::Sector;
 
@@ -65,13 +67,35 @@ pub(crate) struct RwList {
 
 impl RwList {
     // Makes the live entries of `count` sectors from `first` on stale: their newest bytes stand elsewhere now.
-    pub(crate) fn expire(&mut self, first: Sector, count: u32)
+    fn expire(&mut self, first: Sector, count: u32)
         ensures blocks { λ _. ⌜ now (self .exit) .blocks ≡ now (self .entry) .blocks ⌝ }
         ensures entries { λ _. ⌜ entries-view (vec-items (now (self .exit) .entries)) ≡ stale-all (in-run (first .0) count) (entries-view (vec-items (now (self .entry) .entries))) ⌝ }
         ensures len { λ _. ⌜ vec-len (now (self .exit) .entries) ≡ vec-len (now (self .entry) .entries) ⌝ }
         ensures room { λ _. ⌜ vec-cap (now (self .exit) .entries) ≡ vec-cap (now (self .entry) .entries) ⌝ }
     {
         expire_entries(&mut self.entries, first, count);
+    }
+
+    // A sector was written elsewhere.
+    pub(crate) fn expire_sector(&mut self, sector: Sector)
+        ensures blocks { λ _. ⌜ now (self .exit) .blocks ≡ now (self .entry) .blocks ⌝ }
+        ensures entries { λ _. ⌜ entries-view (vec-items (now (self .exit) .entries)) ≡ stale-all (λ n. eqb n (sector .0)) (entries-view (vec-items (now (self .entry) .entries))) ⌝ }
+        ensures len { λ _. ⌜ vec-len (now (self .exit) .entries) ≡ vec-len (now (self .entry) .entries) ⌝ }
+        ensures room { λ _. ⌜ vec-cap (now (self .exit) .entries) ≡ vec-cap (now (self .entry) .entries) ⌝ }
+    {
+        self.expire(sector, 1);
+    }
+
+    // A logical block was settled.
+    pub(crate) fn expire_block(&mut self, c: LogicalBlock, pages: u32)
+        requires some { ⌜ 0 < pages ⌝ }
+        requires small { ⌜ c .0 * pages < 2 ^ 32 ⌝ }
+        ensures blocks { λ _. ⌜ now (self .exit) .blocks ≡ now (self .entry) .blocks ⌝ }
+        ensures entries { λ _. ⌜ entries-view (vec-items (now (self .exit) .entries)) ≡ stale-all (λ n. eqb (n / pages) (c .0)) (entries-view (vec-items (now (self .entry) .entries))) ⌝ }
+        ensures len { λ _. ⌜ vec-len (now (self .exit) .entries) ≡ vec-len (now (self .entry) .entries) ⌝ }
+        ensures room { λ _. ⌜ vec-cap (now (self .exit) .entries) ≡ vec-cap (now (self .entry) .entries) ⌝ }
+    {
+        self.expire(Sector(c.0 * pages), pages);
     }
 
     // One more block at the end.

@@ -10,7 +10,6 @@ use Rattle.std.specs.declared.option.Option.the-variants.{Some, None}
 use Rattle.scheme.specs.Tables.{stale-all}
 use Rattle.fast.specs.Views.{numbers, entries-view}
 use Rattle.fast.specs.Rules.{live-entries, busy, owner-of, fill-of}
-use Rattle.fast.proofs.Entries.{run-block}
 use Rattle.fast.proofs.Counts.{getD-numbers, live-stale, adopted-roles, adopted-view}
 use Rattle.fast.proofs.tables.Tables.adopt.Needs as need
 
@@ -18,19 +17,17 @@ pub ghost-result : need.ghost-result
 ghost-result c =
     let t = c .args .self in
     let k = c .args .sw in
-    let pos : 0 < t .sizes .pages = omega (arith, t .sizes .«pages_fit») in
-    let stale = c .expire .ensures .entries ∙ ap (λ q. stale-all q (entries-view (vec-items (t .rw .entries)))) (run-block (k .owner .0) (t .sizes .pages) pos) in
     let old = c .index-old .result .now in
     let known : k .owner .0 < t .sizes .logical = omega (arith, ap owner-of (c .pre .has), t .owned) in
     let h : k .owner .0 < length (vec-items (t .map)) = omega (arith, t .map .ok .0, t .mapped) in
     let gone : busy (t .sw) ≡ 1 = ap busy (c .pre .has) in
-    let logs = ap vec-items (c .expire .ensures .blocks) in
-    let same-logs = ap vec-len (c .expire .ensures .blocks) in
+    let logs = ap vec-items (c .expire-block .ensures .blocks) in
+    let same-logs = ap vec-len (c .expire-block .ensures .blocks) in
     let is-old = getD-numbers (vec-items (t .map)) (k .owner .0) old h (c .index-old .ensures) in
     let free = c .put .ensures .items in (
       adopted-roles (vec-items (t .map)) (vec-items (t .rw .blocks)) (vec-items (t .free .blocks)) _ _ (t .sw) k (c .pre .has) old h is-old logs free (t .sizes .blocks) (t .«one_role»),
       (
-        (λ n. omega (arith, ap (live-entries n) (stale), live-stale (λ n. eqb (n / t .sizes .pages) (k .owner .0)) n (entries-view (vec-items (t .rw .entries))), t .«one_live» n)),
+        (λ n. omega (arith, ap (live-entries n) (c .expire-block .ensures .entries), live-stale (λ n. eqb (n / t .sizes .pages) (k .owner .0)) n (entries-view (vec-items (t .rw .entries))), t .«one_live» n)),
         (
           omega (arith, t .sizes .«logical_fits»),
           (
@@ -69,20 +66,18 @@ pub returns : need.returns
 returns c =
     let t = c .args .self in
     let k = c .args .sw in
-    let pos : 0 < t .sizes .pages = omega (arith, t .sizes .«pages_fit») in
-    let stale = c .expire .ensures .entries ∙ ap (λ q. stale-all q (entries-view (vec-items (t .rw .entries)))) (run-block (k .owner .0) (t .sizes .pages) pos) in
     let old = c .index-old .result .now in
     let known : k .owner .0 < t .sizes .logical = omega (arith, ap owner-of (c .pre .has), t .owned) in
     let h : k .owner .0 < length (vec-items (t .map)) = omega (arith, t .map .ok .0, t .mapped) in
     let gone : busy (t .sw) ≡ 1 = ap busy (c .pre .has) in
-    let logs = ap vec-items (c .expire .ensures .blocks) in
-    let same-logs = ap vec-len (c .expire .ensures .blocks) in
+    let logs = ap vec-items (c .expire-block .ensures .blocks) in
+    let same-logs = ap vec-len (c .expire-block .ensures .blocks) in
     let is-old = getD-numbers (vec-items (t .map)) (k .owner .0) old h (c .index-old .ensures) in
     let free = c .put .ensures .items in
     record {
-      tables = adopted-view (vec-items (t .map)) (vec-items (t .rw .blocks)) (vec-items (t .free .blocks)) _ _ (t .sw) k (c .pre .has) old h is-old logs free (t .sizes .pages) (vec-items (t .rw .entries)) _ (t .next) (stale);
+      tables = adopted-view (vec-items (t .map)) (vec-items (t .rw .blocks)) (vec-items (t .free .blocks)) _ _ (t .sw) k (c .pre .has) old h is-old logs free (t .sizes .pages) (vec-items (t .rw .entries)) _ (t .next) (c .expire-block .ensures .entries);
       none = refl;
       old = is-old;
       sized = search needs;
-      logged = (same-logs, c .expire .ensures .len);
+      logged = (same-logs, c .expire-block .ensures .len);
     }

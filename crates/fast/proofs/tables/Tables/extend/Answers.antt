@@ -16,19 +16,18 @@ use Rattle.flash.specs.declared.numbers.Block.{Block}
 use Rattle.fast.specs.declared.numbers.LogicalBlock.{LogicalBlock}
 use Rattle.fast.specs.Meaning.{view-of}
 use Rattle.fast.proofs.Counts.{live-stale, live-drop, noted-live, moved, numbers-moved, numbers-rest}
-use Rattle.fast.proofs.Entries.{run-one}
 use Rattle.fast.proofs.tables.Tables.extend.Needs as need
 
 pub ghost-result : need.ghost-result
 ghost-result c =
     let t = c .args .self in
     let k = c .args .sw in
-    let stale = c .expire .ensures .entries ∙ ap (λ q. stale-all q (entries-view (vec-items (t .rw .entries)))) (run-one (c .args .sector .0)) in
-    let logs = ap vec-items (c .expire .ensures .blocks) in
-    let same-logs = ap vec-len (c .expire .ensures .blocks) in (
+    let stale = c .expire-sector .ensures .entries in
+    let logs = ap vec-items (c .expire-sector .ensures .blocks) in
+    let same-logs = ap vec-len (c .expire-sector .ensures .blocks) in (
       (λ b. omega (arith, t .«one_role» b, ap (uses b) logs, ap (uses-sw b) (c .pre .has), ap (λ (x : Block). same b (x .0)) (c .extend .ensures .block))),
       (
-        (λ n. omega (arith, ap (live-entries n) stale, live-stale (λ m. eqb m (c .args .sector .0)) n (entries-view (vec-items (t .rw .entries))), t .«one_live» n)),
+        (λ n. omega (arith, ap (live-entries n) stale, live-stale (λ m. eqb m (c .args .taken .0)) n (entries-view (vec-items (t .rw .entries))), t .«one_live» n)),
         (
           omega (arith, t .owned, ap owner-of (c .pre .has), ap (λ (x : LogicalBlock). x .0) (c .extend .ensures .owner)),
           (
@@ -66,8 +65,8 @@ ghost-result c =
 pub returns : need.returns
 returns c =
     let t = c .args .self in
-    let logs = ap (λ v. numbers (vec-items v)) (c .expire .ensures .blocks) in
-    let stale = c .expire .ensures .entries ∙ ap (λ q. stale-all q (entries-view (vec-items (t .rw .entries)))) (run-one (c .args .sector .0)) in
+    let logs = ap (λ v. numbers (vec-items v)) (c .expire-sector .ensures .blocks) in
+    let stale = c .expire-sector .ensures .entries in
     let o = ap (λ (x : LogicalBlock). x .0) (c .extend .ensures .owner) in
     let b = ap (λ (x : Block). x .0) (c .extend .ensures .block) in
     let f = c .extend .ensures .fill in

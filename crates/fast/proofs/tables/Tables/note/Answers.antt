@@ -14,21 +14,20 @@ use Rattle.fast.specs.Views.{numbers, entries-view, sw-view}
 use Rattle.fast.specs.Rules.{live-entries, busy, owner-of, fill-of, uses, uses-sw}
 use Rattle.fast.specs.Meaning.{view-of}
 use Rattle.fast.proofs.Counts.{live-stale, live-drop, noted-live, moved, numbers-moved, numbers-rest}
-use Rattle.fast.proofs.Entries.{run-one}
 use Rattle.fast.proofs.tables.Tables.note.Needs as need
 
 pub append-requires : need.append-requires
 append-requires c κs =
     let t = c .args .self in
     let m : t .sizes .pages * vec-len (t .rw .blocks) ≤ t .sizes .pages * t .sizes .random = mul-le-mul-left (t .sizes .pages) (t .«few_logs») in
-    omega (arith, m, c .expire .ensures .len, c .expire .ensures .room, c .pre .room, t .«room_entries»)
+    omega (arith, m, c .expire-sector .ensures .len, c .expire-sector .ensures .room, c .pre .room, t .«room_entries»)
 
 pub ghost-result : need.ghost-result
 ghost-result c =
     let t = c .args .self in
-    let stale = c .expire .ensures .entries ∙ ap (λ q. stale-all q (entries-view (vec-items (t .rw .entries)))) (run-one (c .args .sector .0)) in
-    let logs = ap vec-items (c .append .ensures .blocks ∙ c .expire .ensures .blocks) in
-    let same-logs = ap vec-len (c .append .ensures .blocks ∙ c .expire .ensures .blocks) in
+    let stale = c .expire-sector .ensures .entries in
+    let logs = ap vec-items (c .append .ensures .blocks ∙ c .expire-sector .ensures .blocks) in
+    let same-logs = ap vec-len (c .append .ensures .blocks ∙ c .expire-sector .ensures .blocks) in
     let more = ap (λ n. t .sizes .pages * n) same-logs in
     let e = c .append .ensures .entries ∙ ap (λ es. es ++ (live (c .args .sector .0) ∷ [])) stale in (
       (λ b. omega (arith, t .«one_role» b, ap (uses b) logs)),
@@ -45,9 +44,9 @@ ghost-result c =
                 (
                   omega (arith, same-logs, t .«few_logs»),
                   (
-                    omega (arith, more, c .append .ensures .len, c .expire .ensures .len, c .pre .room),
+                    omega (arith, more, c .append .ensures .len, c .expire-sector .ensures .len, c .pre .room),
                     (
-                      omega (arith, more, c .append .ensures .len, c .expire .ensures .len, t .«logs_full»),
+                      omega (arith, more, c .append .ensures .len, c .expire-sector .ensures .len, t .«logs_full»),
                       (
                         search needs,
                         (
@@ -71,8 +70,8 @@ ghost-result c =
 pub returns : need.returns
 returns c =
     let t = c .args .self in
-    let logs = ap (λ v. numbers (vec-items v)) (c .append .ensures .blocks ∙ c .expire .ensures .blocks) in
-    let stale = c .expire .ensures .entries ∙ ap (λ q. stale-all q (entries-view (vec-items (t .rw .entries)))) (run-one (c .args .sector .0)) in
+    let logs = ap (λ v. numbers (vec-items v)) (c .append .ensures .blocks ∙ c .expire-sector .ensures .blocks) in
+    let stale = c .expire-sector .ensures .entries in
     let e = c .append .ensures .entries ∙ ap (λ es. es ++ (live (c .args .sector .0) ∷ [])) stale in
     record {
       tables = λ j. record { data-block = view-of t .data-block; sequential = view-of t .sequential; logs = logs j; entries = e j; free = view-of t .free; next = t .next };

@@ -9,24 +9,21 @@ use Rattle.std.specs.Of.Vec.{vec-items, vec-len}
 use Rattle.scheme.specs.Tables.{stale-all}
 use Rattle.fast.specs.Views.{numbers, entries-view}
 use Rattle.fast.specs.Rules.{live-entries}
-use Rattle.fast.proofs.Entries.{run-block}
 use Rattle.fast.proofs.Counts.{getD-numbers, renewed-roles, renewed-view, live-stale}
 use Rattle.fast.proofs.tables.Tables.renew.Needs as need
 
 pub ghost-result : need.ghost-result
 ghost-result c =
     let t = c .args .self in
-    let pos : 0 < t .sizes .pages = omega (arith, t .sizes .«pages_fit») in
-    let stale = c .expire .ensures .entries ∙ ap (λ q. stale-all q (entries-view (vec-items (t .rw .entries)))) (run-block (c .args .c .0) (t .sizes .pages) pos) in
     let old = c .index-old .result .now in
     let h : c .args .c .0 < length (vec-items (t .map)) = omega (arith, t .map .ok .0, t .mapped, c .pre .known) in
     let k : 0 < length (vec-items (t .free .blocks)) = omega (arith, t .free .blocks .ok .0, c .pre .some) in
     let free = c .put .ensures .items ∙ ap (λ xs. xs ++ (old ∷ [])) (c .take-new .ensures .items) in
-    let logs = ap vec-items (c .expire .ensures .blocks) in
-    let same-logs = ap vec-len (c .expire .ensures .blocks) in (
+    let logs = ap vec-items (c .expire-block .ensures .blocks) in
+    let same-logs = ap vec-len (c .expire-block .ensures .blocks) in (
       renewed-roles (vec-items (t .map)) (vec-items (t .rw .blocks)) (vec-items (t .free .blocks)) _ _ (c .args .c .0) (c .take-new .result) old h k (c .take-new .ensures .block) (getD-numbers (vec-items (t .map)) (c .args .c .0) old h (c .index-old .ensures)) logs free (t .sizes .blocks) (t .sw) (t .«one_role»),
       (
-        (λ n. omega (arith, ap (live-entries n) (stale), live-stale (λ n. eqb (n / t .sizes .pages) (c .args .c .0)) n (entries-view (vec-items (t .rw .entries))), t .«one_live» n)),
+        (λ n. omega (arith, ap (live-entries n) (c .expire-block .ensures .entries), live-stale (λ n. eqb (n / t .sizes .pages) (c .args .c .0)) n (entries-view (vec-items (t .rw .entries))), t .«one_live» n)),
         (
           t .owned,
           (
@@ -64,17 +61,15 @@ ghost-result c =
 pub returns : need.returns
 returns c =
     let t = c .args .self in
-    let pos : 0 < t .sizes .pages = omega (arith, t .sizes .«pages_fit») in
-    let stale = c .expire .ensures .entries ∙ ap (λ q. stale-all q (entries-view (vec-items (t .rw .entries)))) (run-block (c .args .c .0) (t .sizes .pages) pos) in
     let old = c .index-old .result .now in
     let h : c .args .c .0 < length (vec-items (t .map)) = omega (arith, t .map .ok .0, t .mapped, c .pre .known) in
     let k : 0 < length (vec-items (t .free .blocks)) = omega (arith, t .free .blocks .ok .0, c .pre .some) in
     let free = c .put .ensures .items ∙ ap (λ xs. xs ++ (old ∷ [])) (c .take-new .ensures .items) in
-    let logs = ap vec-items (c .expire .ensures .blocks) in
+    let logs = ap vec-items (c .expire-block .ensures .blocks) in
     let is-old = getD-numbers (vec-items (t .map)) (c .args .c .0) old h (c .index-old .ensures) in
     record {
-      tables = renewed-view (vec-items (t .map)) (vec-items (t .rw .blocks)) (vec-items (t .free .blocks)) _ _ (c .args .c .0) (c .take-new .result) old h k (c .take-new .ensures .block) is-old logs free (t .sizes .pages) (t .sw) (vec-items (t .rw .entries)) _ (t .next) (c .pre .unowned) (stale);
+      tables = renewed-view (vec-items (t .map)) (vec-items (t .rw .blocks)) (vec-items (t .free .blocks)) _ _ (c .args .c .0) (c .take-new .result) old h k (c .take-new .ensures .block) is-old logs free (t .sizes .pages) (t .sw) (vec-items (t .rw .entries)) _ (t .next) (c .pre .unowned) (c .expire-block .ensures .entries);
       old = is-old;
       sized = search needs;
-      logged = (ap vec-len (c .expire .ensures .blocks), c .expire .ensures .len);
+      logged = (ap vec-len (c .expire-block .ensures .blocks), c .expire-block .ensures .len);
     }

@@ -10,7 +10,6 @@ use Rattle.std.specs.declared.option.Option.the-variants.{Some, None}
 use Rattle.scheme.specs.Tables.{stale-all}
 use Rattle.fast.specs.Views.{numbers, entries-view}
 use Rattle.fast.specs.Rules.{live-entries, busy, owner-of, fill-of}
-use Rattle.fast.proofs.Entries.{run-block}
 use Rattle.fast.proofs.Counts.{getD-numbers, live-stale, replaced-roles, replaced-view}
 use Rattle.fast.proofs.tables.Tables.replace.Needs as need
 
@@ -18,20 +17,18 @@ pub ghost-result : need.ghost-result
 ghost-result c =
     let t = c .args .self in
     let k = c .args .sw in
-    let pos : 0 < t .sizes .pages = omega (arith, t .sizes .«pages_fit») in
-    let stale = c .expire .ensures .entries ∙ ap (λ q. stale-all q (entries-view (vec-items (t .rw .entries)))) (run-block (k .owner .0) (t .sizes .pages) pos) in
     let old = c .index-old .result .now in
     let known : k .owner .0 < t .sizes .logical = omega (arith, ap owner-of (c .pre .has), t .owned) in
     let h : k .owner .0 < length (vec-items (t .map)) = omega (arith, t .map .ok .0, t .mapped) in
     let gone : busy (t .sw) ≡ 1 = ap busy (c .pre .has) in
-    let logs = ap vec-items (c .expire .ensures .blocks) in
-    let same-logs = ap vec-len (c .expire .ensures .blocks) in
+    let logs = ap vec-items (c .expire-block .ensures .blocks) in
+    let same-logs = ap vec-len (c .expire-block .ensures .blocks) in
     let is-old = getD-numbers (vec-items (t .map)) (k .owner .0) old h (c .index-old .ensures) in
     let some : 0 < length (vec-items (t .free .blocks)) = omega (arith, t .free .blocks .ok .0, c .pre .some) in
     let free = c .put-2 .ensures .items ∙ ap (λ xs. xs ++ (k .block ∷ [])) (c .put .ensures .items ∙ ap (λ xs. xs ++ (old ∷ [])) (c .take-new .ensures .items)) in (
       replaced-roles (vec-items (t .map)) (vec-items (t .rw .blocks)) (vec-items (t .free .blocks)) _ _ (t .sw) k (c .pre .has) (c .take-new .result) old h some (c .take-new .ensures .block) is-old logs free (t .sizes .blocks) (t .«one_role»),
       (
-        (λ n. omega (arith, ap (live-entries n) (stale), live-stale (λ n. eqb (n / t .sizes .pages) (k .owner .0)) n (entries-view (vec-items (t .rw .entries))), t .«one_live» n)),
+        (λ n. omega (arith, ap (live-entries n) (c .expire-block .ensures .entries), live-stale (λ n. eqb (n / t .sizes .pages) (k .owner .0)) n (entries-view (vec-items (t .rw .entries))), t .«one_live» n)),
         (
           omega (arith, t .sizes .«logical_fits»),
           (
@@ -70,20 +67,18 @@ pub returns : need.returns
 returns c =
     let t = c .args .self in
     let k = c .args .sw in
-    let pos : 0 < t .sizes .pages = omega (arith, t .sizes .«pages_fit») in
-    let stale = c .expire .ensures .entries ∙ ap (λ q. stale-all q (entries-view (vec-items (t .rw .entries)))) (run-block (k .owner .0) (t .sizes .pages) pos) in
     let old = c .index-old .result .now in
     let known : k .owner .0 < t .sizes .logical = omega (arith, ap owner-of (c .pre .has), t .owned) in
     let h : k .owner .0 < length (vec-items (t .map)) = omega (arith, t .map .ok .0, t .mapped) in
     let gone : busy (t .sw) ≡ 1 = ap busy (c .pre .has) in
-    let logs = ap vec-items (c .expire .ensures .blocks) in
-    let same-logs = ap vec-len (c .expire .ensures .blocks) in
+    let logs = ap vec-items (c .expire-block .ensures .blocks) in
+    let same-logs = ap vec-len (c .expire-block .ensures .blocks) in
     let is-old = getD-numbers (vec-items (t .map)) (k .owner .0) old h (c .index-old .ensures) in
     let some : 0 < length (vec-items (t .free .blocks)) = omega (arith, t .free .blocks .ok .0, c .pre .some) in
     let free = c .put-2 .ensures .items ∙ ap (λ xs. xs ++ (k .block ∷ [])) (c .put .ensures .items ∙ ap (λ xs. xs ++ (old ∷ [])) (c .take-new .ensures .items)) in
     record {
-      tables = replaced-view (vec-items (t .map)) (vec-items (t .rw .blocks)) (vec-items (t .free .blocks)) _ _ (t .sw) k (c .pre .has) (c .take-new .result) old h some (c .take-new .ensures .block) is-old logs free (t .sizes .pages) (vec-items (t .rw .entries)) _ (t .next) (stale);
+      tables = replaced-view (vec-items (t .map)) (vec-items (t .rw .blocks)) (vec-items (t .free .blocks)) _ _ (t .sw) k (c .pre .has) (c .take-new .result) old h some (c .take-new .ensures .block) is-old logs free (t .sizes .pages) (vec-items (t .rw .entries)) _ (t .next) (c .expire-block .ensures .entries);
       old = is-old;
       sized = search needs;
-      logged = (same-logs, c .expire .ensures .len);
+      logged = (same-logs, c .expire-block .ensures .len);
     }
