@@ -12,13 +12,15 @@ use Rattle.std.specs.declared.option.Option.the-variants.{Some, None}
 use Rattle.std.proofs.shelf.Tests.{cases-bool, cases-eq, eq-eqb, ne-eqb, lt-ltb}
 use Rattle.flash.specs.declared.numbers.Block.{Block}
 use Rattle.scheme.specs.Functions.{upd}
-use Rattle.scheme.specs.Steps.{merged}
+use Rattle.scheme.specs.Roles.{Led, after, taken-as-data, taken-as-sequential, taken-as-random, finished, erased}
+use Rattle.scheme.specs.Steps.{merged, turn}
 use Rattle.scheme.specs.Tables.{Entry, live, stale, stale-if, stale-all, Sequential, owned, released}
 use Rattle.scheme.proofs.Updates.{upd-both}
 use Rattle.scheme.specs.Tables as spec
 use Rattle.fast.specs.declared.tables.sequential.Sw.{Sw}
 use Rattle.fast.specs.declared.tables.random.Entry as code
 use Rattle.fast.specs.Views.{numbers, view, sw-view, entries-view}
+use Rattle.fast.proofs.Leads.{role-by, role-counted, uses-at, leads-one, leads-two, leads-three}
 use Rattle.fast.specs.Rules.{same, uses, uses-sw, busy, live-entries, One-role, One-live}
 
 pub uses-set : (b : ℕ) (xs : List Block) (i : ℕ) (x : Block) → i < length xs → uses b (set xs i x) + same b (getD (numbers xs) i 0) ≡ uses b xs + same b (x .0)
@@ -101,6 +103,28 @@ module _ (map : List Block) (logs free logs′ free′ : List Block) (i : ℕ) (
         ap (same b) is-old,
       )
 
+  pub renewed-led : (B : ℕ) (sw : Option Sw) → One-role B map sw logs free → (es es′ : List code.Entry) (n n′ : ℕ)
+      → Led B (view map sw logs es free n) (turn taken-as-data (getD (numbers free) 0 0) ∷ turn erased (getD (numbers map) i 0) ∷ []) (view (set map i new) sw logs′ es′ free′ n′)
+  renewed-led B sw r es es′ n n′ b lt =
+      let one : cond {A = ℕ} (ltb b B) 1 0 ≡ 1 = ap (λ q. cond {A = ℕ} q 1 0) (lt-ltb b B lt) in
+      let r₁ = r b in
+      let a = uses-at b map i h in
+      let f = uses-front b free k in
+      let g = ap (uses b) new-free ∙ uses-push b (drop 1 free) old in
+      let o = ap (same b) is-old in
+      rw (role-counted map sw logs es free n b, role-counted (set map i new) sw logs′ es′ free′ n′ b, ap (uses b) same-logs)
+      (leads-two taken-as-data (getD (numbers free) 0 0) (getD (numbers map) i 0) b (role-by (uses b free) (uses b logs) (uses-sw b sw)) (role-by (uses b free′) (uses b logs) (uses-sw b sw))
+      (λ x y. absurd (omega arith))
+      (λ x y. taken (uses b free) (uses b logs) (uses-sw b sw) (uses b free′) (omega arith) (omega arith) (omega arith) (omega arith))
+      (λ x y. freed (uses b free) (uses b logs) (uses-sw b sw) (uses b free′) (omega arith) (omega arith) (omega arith) (omega arith))
+      (λ x y. ap (λ z. role-by z (uses b logs) (uses-sw b sw)) (omega arith)))
+    where
+      taken : (f l s g : ℕ) → f ≡ 1 → l ≡ 0 → s ≡ 0 → g ≡ 0 → after (role-by f l s) taken-as-data ≡ Some (role-by g l s)
+      taken f l s g i j k e = rw (i, j, k, e) refl
+
+      freed : (f l s g : ℕ) → f ≡ 0 → l ≡ 0 → s ≡ 0 → g ≡ 1 → after (role-by f l s) erased ≡ Some (role-by g l s)
+      freed f l s g i j k e = rw (i, j, k, e) refl
+
   pub renewed-view : (P : ℕ) (sw : Option Sw) (entries entries′ : List code.Entry) (next : ℕ) → owned i (sw-view sw) ≡ None
       → entries-view entries′ ≡ stale-all (λ n. eqb (n / P) i) (entries-view entries)
       → view (set map i new) sw logs′ entries′ free′ next ≡ merged P i (getD (numbers free) 0 0) (drop 1 (numbers free)) (getD (numbers map) i 0 ∷ []) (view map sw logs entries free next)
@@ -134,6 +158,28 @@ module _ (map : List Block) (logs free logs′ free′ : List Block) (sw : Optio
         ap (same b) is-old,
       )
 
+  pub adopted-led : (B : ℕ) → One-role B map sw logs free → (es es′ : List code.Entry) (n n′ : ℕ)
+      → Led B (view map sw logs es free n) (turn finished (k .block .0) ∷ turn erased (getD (numbers map) (k .owner .0) 0) ∷ []) (view (set map (k .owner .0) (k .block)) None logs′ es′ free′ n′)
+  adopted-led B r es es′ n n′ b lt =
+      let one : cond {A = ℕ} (ltb b B) 1 0 ≡ 1 = ap (λ q. cond {A = ℕ} q 1 0) (lt-ltb b B lt) in
+      let r₁ = r b in
+      let a = uses-at b map (k .owner .0) h in
+      let s = sw-gone sw k has b in
+      let g = ap (uses b) new-free ∙ uses-push b free old in
+      let o = ap (same b) is-old in
+      rw (role-counted map sw logs es free n b, role-counted (set map (k .owner .0) (k .block)) None logs′ es′ free′ n′ b, ap (uses b) same-logs)
+      (leads-two finished (k .block .0) (getD (numbers map) (k .owner .0) 0) b (role-by (uses b free) (uses b logs) (uses-sw b sw)) (role-by (uses b free′) (uses b logs) 0)
+      (λ x y. absurd (omega arith))
+      (λ x y. switched (uses b free) (uses b logs) (uses-sw b sw) (uses b free′) (omega arith) (omega arith) (omega arith) (omega arith))
+      (λ x y. freed (uses b free) (uses b logs) (uses-sw b sw) (uses b free′) (omega arith) (omega arith) (omega arith) (omega arith))
+      (λ x y. let f₁ : uses b free ≡ uses b free′ = omega arith in let s₁ : uses-sw b sw ≡ 0 = omega arith in ap₂ (λ z w. role-by z (uses b logs) w) f₁ s₁))
+    where
+      switched : (f l s g : ℕ) → f ≡ 0 → l ≡ 0 → s ≡ 1 → g ≡ 0 → after (role-by f l s) finished ≡ Some (role-by g l 0)
+      switched f l s g i j k e = rw (i, j, k, e) refl
+
+      freed : (f l s g : ℕ) → f ≡ 0 → l ≡ 0 → s ≡ 0 → g ≡ 1 → after (role-by f l s) erased ≡ Some (role-by g l 0)
+      freed f l s g i j k e = rw (i, j, k, e) refl
+
   pub adopted-view : (P : ℕ) (entries entries′ : List code.Entry) (next : ℕ)
       → entries-view entries′ ≡ stale-all (λ n. eqb (n / P) (k .owner .0)) (entries-view entries)
       → view (set map (k .owner .0) (k .block)) None logs′ entries′ free′ next ≡ merged P (k .owner .0) (k .block .0) (numbers free) (getD (numbers map) (k .owner .0) 0 ∷ []) (view map sw logs entries free next)
@@ -163,6 +209,35 @@ module _ (map : List Block) (logs free logs′ free′ : List Block) (sw : Optio
         ap (same b) is-new,
         ap (same b) is-old,
       )
+
+  pub replaced-led : (B : ℕ) → One-role B map sw logs free → (es es′ : List code.Entry) (n n′ : ℕ)
+      → Led B (view map sw logs es free n) (turn taken-as-data (getD (numbers free) 0 0) ∷ turn erased (getD (numbers map) (k .owner .0) 0) ∷ turn erased (k .block .0) ∷ []) (view (set map (k .owner .0) new) None logs′ es′ free′ n′)
+  replaced-led B r es es′ n n′ b lt =
+      let one : cond {A = ℕ} (ltb b B) 1 0 ≡ 1 = ap (λ q. cond {A = ℕ} q 1 0) (lt-ltb b B lt) in
+      let r₁ = r b in
+      let a = uses-at b map (k .owner .0) h in
+      let s = sw-gone sw k has b in
+      let f = uses-front b free some in
+      let g = ap (uses b) new-free ∙ uses-push b (drop 1 free ++ (old ∷ [])) (k .block) in
+      let p = uses-push b (drop 1 free) old in
+      let o = ap (same b) is-old in
+      rw (role-counted map sw logs es free n b, role-counted (set map (k .owner .0) new) None logs′ es′ free′ n′ b, ap (uses b) same-logs)
+      (leads-three taken-as-data (getD (numbers free) 0 0) (getD (numbers map) (k .owner .0) 0) (k .block .0) b (role-by (uses b free) (uses b logs) (uses-sw b sw)) (role-by (uses b free′) (uses b logs) 0)
+      (λ x. (omega arith, omega arith))
+      (λ y z. absurd (omega arith))
+      (λ x. taken (uses b free) (uses b logs) (uses-sw b sw) (uses b free′) (omega arith) (omega arith) (omega arith) (omega arith))
+      (λ x y z. freed (uses b free) (uses b logs) (uses-sw b sw) (uses b free′) (omega arith) (omega arith) (omega arith) (omega arith))
+      (λ x y z. given-up (uses b free) (uses b logs) (uses-sw b sw) (uses b free′) (omega arith) (omega arith) (omega arith) (omega arith))
+      (λ x y z. let f₁ : uses b free ≡ uses b free′ = omega arith in let s₁ : uses-sw b sw ≡ 0 = omega arith in ap₂ (λ u w. role-by u (uses b logs) w) f₁ s₁))
+    where
+      taken : (f l s g : ℕ) → f ≡ 1 → l ≡ 0 → s ≡ 0 → g ≡ 0 → after (role-by f l s) taken-as-data ≡ Some (role-by g l 0)
+      taken f l s g i j k e = rw (i, j, e) refl
+
+      freed : (f l s g : ℕ) → f ≡ 0 → l ≡ 0 → s ≡ 0 → g ≡ 1 → after (role-by f l s) erased ≡ Some (role-by g l 0)
+      freed f l s g i j k e = rw (i, j, k, e) refl
+
+      given-up : (f l s g : ℕ) → f ≡ 0 → l ≡ 0 → s ≡ 1 → g ≡ 1 → after (role-by f l s) erased ≡ Some (role-by g l 0)
+      given-up f l s g i j k e = rw (i, j, k, e) refl
 
   pub replaced-view : (P : ℕ) (entries entries′ : List code.Entry) (next : ℕ)
       → entries-view entries′ ≡ stale-all (λ n. eqb (n / P) (k .owner .0)) (entries-view entries)
@@ -227,3 +302,56 @@ numbers-moved ys ys′ x n e j = ap numbers j ∙ numbers-push ys x ∙ ap (λ m
 pub busy-few : (q : Option Sw) → busy q ≤ 1
 busy-few None = omega arith
 busy-few (Some k) = omega arith
+
+-- the first free block taken as a log, and the oldest random log given up
+module _ (B : ℕ) (map : List Block) (es es′ : List code.Entry) (n n′ : ℕ) where
+  pub opened-led : (logs free free′ : List Block) (k : Sw) → 0 < length free → k .block .0 ≡ getD (numbers free) 0 0 → free′ ≡ drop 1 free → One-role B map None logs free
+      → Led B (view map None logs es free n) (turn taken-as-sequential (getD (numbers free) 0 0) ∷ []) (view map (Some k) logs es′ free′ n′)
+  opened-led logs free free′ k some is-new new-free r b lt =
+      let one : cond {A = ℕ} (ltb b B) 1 0 ≡ 1 = ap (λ q. cond {A = ℕ} q 1 0) (lt-ltb b B lt) in
+      let r₁ = r b in
+      let f = uses-front b free some in
+      let g = ap (uses b) new-free in
+      let s = ap (same b) is-new in
+      rw (role-counted map None logs es free n b, role-counted map (Some k) logs es′ free′ n′ b)
+      (leads-one taken-as-sequential (getD (numbers free) 0 0) b (role-by (uses b free) (uses b logs) 0) (role-by (uses b free′) (uses b logs) (same b (k .block .0)))
+      (λ x. taken (uses b free) (uses b logs) (uses b free′) (same b (k .block .0)) (omega arith) (omega arith) (omega arith) (omega arith))
+      (λ x. let f₁ : uses b free ≡ uses b free′ = omega arith in let s₁ : 0 ≡ same b (k .block .0) = omega arith in ap₂ (λ u w. role-by u (uses b logs) w) f₁ s₁))
+    where
+      taken : (f l g s : ℕ) → f ≡ 1 → l ≡ 0 → g ≡ 0 → s ≡ 1 → after (role-by f l 0) taken-as-sequential ≡ Some (role-by g l s)
+      taken f l g s i j k e = rw (i, j, k, e) refl
+
+  module _ (sw : Option Sw) (logs logs′ free free′ : List Block) (x : Block) (r : One-role B map sw logs free) where
+    pub logged-led : 0 < length free → x .0 ≡ getD (numbers free) 0 0 → free′ ≡ drop 1 free → logs′ ≡ logs ++ (x ∷ [])
+        → Led B (view map sw logs es free n) (turn taken-as-random (getD (numbers free) 0 0) ∷ []) (view map sw logs′ es′ free′ n′)
+    logged-led some is-new new-free new-logs b lt =
+        let one : cond {A = ℕ} (ltb b B) 1 0 ≡ 1 = ap (λ q. cond {A = ℕ} q 1 0) (lt-ltb b B lt) in
+        let r₁ = r b in
+        let f = uses-front b free some in
+        let g = ap (uses b) new-free in
+        let l = ap (uses b) new-logs ∙ uses-push b logs x in
+        let s = ap (same b) is-new in
+        rw (role-counted map sw logs es free n b, role-counted map sw logs′ es′ free′ n′ b)
+        (leads-one taken-as-random (getD (numbers free) 0 0) b (role-by (uses b free) (uses b logs) (uses-sw b sw)) (role-by (uses b free′) (uses b logs′) (uses-sw b sw))
+        (λ y. taken (uses b logs) (uses-sw b sw) (uses b free) (uses b free′) (uses b logs′) (omega arith) (omega arith) (omega arith))
+        (λ y. let f₁ : uses b free ≡ uses b free′ = omega arith in let l₁ : uses b logs ≡ uses b logs′ = omega arith in ap₂ (λ u w. role-by u w (uses-sw b sw)) f₁ l₁))
+      where
+        taken : (l s f g m : ℕ) → f ≡ 1 → g ≡ 0 → m ≡ 1 → after (role-by f l s) taken-as-random ≡ Some (role-by g m s)
+        taken l s f g m i j k = rw (i, j, k) refl
+
+    pub retired-led : 0 < length logs → x .0 ≡ getD (numbers logs) 0 0 → logs′ ≡ drop 1 logs → free′ ≡ free ++ (x ∷ [])
+        → Led B (view map sw logs es free n) (turn erased (getD (numbers logs) 0 0) ∷ []) (view map sw logs′ es′ free′ n′)
+    retired-led some is-old new-logs new-free b lt =
+        let one : cond {A = ℕ} (ltb b B) 1 0 ≡ 1 = ap (λ q. cond {A = ℕ} q 1 0) (lt-ltb b B lt) in
+        let r₁ = r b in
+        let l = uses-front b logs some in
+        let g = ap (uses b) new-logs in
+        let f = ap (uses b) new-free ∙ uses-push b free x in
+        let s = ap (same b) is-old in
+        rw (role-counted map sw logs es free n b, role-counted map sw logs′ es′ free′ n′ b)
+        (leads-one erased (getD (numbers logs) 0 0) b (role-by (uses b free) (uses b logs) (uses-sw b sw)) (role-by (uses b free′) (uses b logs′) (uses-sw b sw))
+        (λ y. freed (uses b logs′) (uses-sw b sw) (uses b free) (uses b logs) (uses b free′) (omega arith) (omega arith) (omega arith))
+        (λ y. let f₁ : uses b free ≡ uses b free′ = omega arith in let l₁ : uses b logs ≡ uses b logs′ = omega arith in ap₂ (λ u w. role-by u w (uses-sw b sw)) f₁ l₁))
+      where
+        freed : (m s f l g : ℕ) → f ≡ 0 → l ≡ 1 → g ≡ 1 → after (role-by f l s) erased ≡ Some (role-by g m s)
+        freed m s f l g i j k = rw (i, j, k) refl

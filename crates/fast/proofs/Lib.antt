@@ -1,5 +1,6 @@
 pub mod Measures
 pub mod Entries
+pub mod Leads
 pub mod Counts
 pub mod Places
 pub mod Carried
@@ -14,3 +15,4 @@ pub mod Formatted
 pub mod Barred
 pub mod Turns
 pub mod Played
+pub mod Standing

@@ -1,6 +1,7 @@
 -- What a layer of the code means, and what its answers say in the terms of the ledger: each case with its number and its values.
 use Prim.Native.Nat.{ℕ}
-use mathlib.Core.Bool.{Bool}
+use lib.Dec.{ltb}
+use mathlib.Core.Bool.{Bool, cond}
 use mathlib.Core.List.{List}
 use Rattle.std.specs.declared.option.Option.{Option}
 use Rattle.std.specs.declared.option.Option.the-variants.{Some, None}
@@ -8,6 +9,7 @@ use Rattle.std.specs.declared.result.Result.{Result}
 use Rattle.std.specs.declared.result.Result.the-variants.{Ok, Err}
 use Rattle.flash.specs.Meaning.{Flash}
 use Rattle.scheme.specs.Ledger as ledger
+use Rattle.scheme.specs.Roles.{Role, role-of}
 use Rattle.scheme.specs.Runs as runs
 use Rattle.fast.specs.Leaves.{at}
 use Rattle.fast.specs.Meaning.{view-of}
@@ -34,6 +36,11 @@ meant f (Some t) =
 -- what a layer means, by what its device means
 abbrev pub layer-of : {D : Type 0} → (D → Flash) → Layer D → runs.Layer
 layer-of flash y = meant (flash (y .device)) (y .tables)
+
+-- the role of a block, if there are tables and such a block
+abbrev pub role-meant : Option Tables → ℕ → Option Role
+role-meant None b = None
+role-meant (Some t) b = cond (ltb b (t .sizes .blocks)) (Some (role-of (view-of t) b)) None
 
 -- where a run starts
 abbrev pub started : Flash → ℕ → ℕ → ℕ → runs.Start

@@ -11,6 +11,7 @@ ghost use Prim.Native.Nat.{_*_, _/_, _%_, _<_};
 ghost use lib.ListN.{length};
 ghost use mathlib.Core.Bool.{not, _&&_};
 ghost use mathlib.Core.Path.{_≡_};
+ghost use Rattle.std.specs.Options.{mapped};
 ghost use Rattle.std.specs.Vec.{made, refused};
 ghost use Rattle.std.specs.declared.option.Option.the-variants.{Some, None};
 ghost use Rattle.flash.specs.Calls.{is-blank};
@@ -21,10 +22,12 @@ ghost use Rattle.scheme.specs.Tables.{Tables as Scheme-tables};
 ghost use Rattle.scheme.specs.Work.{seen, line, each, do-erase};
 ghost use Rattle.fast.specs.Leaves.{at};
 ghost use Rattle.fast.specs.Meaning.{view-of};
-ghost use Rattle.fast.specs.Told.{meant, layer-of, started, found-told, read-told, write-told, admitted-told};
+ghost use Rattle.fast.specs.Roles.{role-told};
+ghost use Rattle.fast.specs.Told.{meant, layer-of, role-meant, started, found-told, read-told, write-told, admitted-told};
 use crate::fit::fit;
 use crate::numbers::LogicalBlock;
 use crate::refusal::Refusal;
+use crate::roles::Role;
 use crate::start::start_tables;
 use crate::steps::Step;
 use crate::steps::copies::vacant;
@@ -179,6 +182,19 @@ impl<D: Device> Layer<D> {
             Some(tables) => tables.sizes.logical * tables.sizes.pages,
             None => 0,
         }
+    }
+
+    // The role of a block, if the layer has sectors and the device such a block.
+    pub fn role(&self, block: Block) -> Option<Role>
+        ensures { λ r. ⌜ mapped role-told r ≡ role-meant (now (self .entry) .tables) (block .0) ⌝ }
+    {
+        let Some(tables) = &self.tables else {
+            return None;
+        };
+        if block.0 >= tables.sizes.blocks {
+            return None;
+        }
+        Some(tables.role(block))
     }
 
     // Reads a sector into the buffer, which is filled with 0xFF where it was never written.

@@ -1,4 +1,6 @@
-// Whole changes of the tables.
+// The changes of the tables, each made whole: which blocks change their role is said by the clause `roles`, through the match of role and
+// event. The tables are taken apart by a pattern, their parts change in place, and a literal makes them again, which owes every rule of the
+// tables once. A block that is given up goes to the back of the free list here; the caller erases it before anything else.
 
 ghost use mathlib.Core.Path.{_≡_};
 ghost use mathlib.Core.List.{List, [], _∷_, _++_};
@@ -7,7 +9,8 @@ ghost use lib.ListN.{length, drop, getD};
 ghost use Rattle.std.specs.Of.Vec.{vec-len, vec-items, vec-cap};
 ghost use Rattle.std.specs.declared.option.Option.the-variants.{Some, None};
 ghost use lib.Dec.{eqb};
-ghost use Rattle.scheme.specs.Steps.{merged};
+ghost use Rattle.scheme.specs.Roles.{Led, taken-as-data, taken-as-sequential, taken-as-random, finished, erased};
+ghost use Rattle.scheme.specs.Steps.{merged, turn};
 ghost use Rattle.scheme.specs.Tables.{owned, stale-all, live, with-sequential, with-random, with-free, with-next};
 ghost use Rattle.fast.specs.Views.{sw-view, numbers};
 ghost use Rattle.fast.specs.Meaning.{view-of, Sized, Logged};
@@ -25,6 +28,7 @@ impl Tables {
         requires some { ⌜ 0 < vec-len (self .free .blocks) ⌝ }
         ensures tables { λ r. ⌜ view-of (r .0) ≡ merged (self .sizes .pages) (c .0) (getD (numbers (vec-items (self .free .blocks))) 0 0) (drop 1 (numbers (vec-items (self .free .blocks)))) (view-of self .data-block (c .0) ∷ []) (view-of self) ⌝ }
         ensures old { λ r. ⌜ r .1 .0 ≡ view-of self .data-block (c .0) ⌝ }
+        ensures roles { λ r. ⌜ Led (self .sizes .blocks) (view-of self) (turn taken-as-data (getD (numbers (vec-items (self .free .blocks))) 0 0) ∷ turn erased (view-of self .data-block (c .0)) ∷ []) (view-of (r .0)) ⌝ }
         ensures sized { λ r. ⌜ Sized (r .0) self ⌝ }
         ensures logged { λ r. ⌜ Logged (r .0) self ⌝ }
     {
@@ -60,6 +64,7 @@ impl Tables {
         ensures tables { λ r. ⌜ view-of (r .0) ≡ merged (self .sizes .pages) (sw .owner .0) (sw .block .0) (numbers (vec-items (self .free .blocks))) (view-of self .data-block (sw .owner .0) ∷ []) (view-of self) ⌝ }
         ensures none { λ r. ⌜ r .0 .sw ≡ None ⌝ }
         ensures old { λ r. ⌜ r .1 .0 ≡ view-of self .data-block (sw .owner .0) ⌝ }
+        ensures roles { λ r. ⌜ Led (self .sizes .blocks) (view-of self) (turn finished (sw .block .0) ∷ turn erased (view-of self .data-block (sw .owner .0)) ∷ []) (view-of (r .0)) ⌝ }
         ensures sized { λ r. ⌜ Sized (r .0) self ⌝ }
         ensures logged { λ r. ⌜ Logged (r .0) self ⌝ }
     {
@@ -95,6 +100,7 @@ impl Tables {
         requires some { ⌜ 0 < vec-len (self .free .blocks) ⌝ }
         ensures tables { λ r. ⌜ view-of (r .0) ≡ merged (self .sizes .pages) (sw .owner .0) (getD (numbers (vec-items (self .free .blocks))) 0 0) (drop 1 (numbers (vec-items (self .free .blocks)))) (view-of self .data-block (sw .owner .0) ∷ sw .block .0 ∷ []) (view-of self) ⌝ }
         ensures old { λ r. ⌜ r .1 .0 ≡ view-of self .data-block (sw .owner .0) ⌝ }
+        ensures roles { λ r. ⌜ Led (self .sizes .blocks) (view-of self) (turn taken-as-data (getD (numbers (vec-items (self .free .blocks))) 0 0) ∷ turn erased (view-of self .data-block (sw .owner .0)) ∷ turn erased (sw .block .0) ∷ []) (view-of (r .0)) ⌝ }
         ensures sized { λ r. ⌜ Sized (r .0) self ⌝ }
         ensures logged { λ r. ⌜ Logged (r .0) self ⌝ }
     {
@@ -134,6 +140,7 @@ impl Tables {
         requires none { ⌜ self .sw ≡ None ⌝ }
         requires some { ⌜ 0 < vec-len (self .free .blocks) ⌝ }
         ensures tables { λ r. ⌜ view-of r ≡ with-sequential (Some (record { owner = owner .0; block = getD (numbers (vec-items (self .free .blocks))) 0 0; fill = 1 })) (with-free (drop 1 (numbers (vec-items (self .free .blocks)))) (view-of self)) ⌝ }
+        ensures roles { λ r. ⌜ Led (self .sizes .blocks) (view-of self) (turn taken-as-sequential (getD (numbers (vec-items (self .free .blocks))) 0 0) ∷ []) (view-of r) ⌝ }
         ensures sized { λ r. ⌜ Sized r self ⌝ }
     {
         let Tables {
@@ -193,6 +200,7 @@ impl Tables {
         requires full { ⌜ self .sizes .pages * vec-len (self .rw .blocks) ≤ vec-len (self .rw .entries) ⌝ }
         requires some { ⌜ 0 < vec-len (self .free .blocks) ⌝ }
         ensures tables { λ r. ⌜ view-of r ≡ with-random (view-of self .logs ++ (getD (numbers (vec-items (self .free .blocks))) 0 0 ∷ [])) (view-of self .entries) (with-free (drop 1 (numbers (vec-items (self .free .blocks)))) (view-of self)) ⌝ }
+        ensures roles { λ r. ⌜ Led (self .sizes .blocks) (view-of self) (turn taken-as-random (getD (numbers (vec-items (self .free .blocks))) 0 0) ∷ []) (view-of r) ⌝ }
         ensures sized { λ r. ⌜ Sized r self ⌝ }
         ensures room { λ r. ⌜ vec-len (r .rw .entries) < r .sizes .pages * vec-len (r .rw .blocks) ⌝ }
     {
@@ -249,6 +257,7 @@ impl Tables {
         requires long { ⌜ self .sizes .pages ≤ vec-len (self .rw .entries) ⌝ }
         ensures tables { λ r. ⌜ view-of (r .0) ≡ with-random (drop 1 (view-of self .logs)) (drop (self .sizes .pages) (view-of self .entries)) (with-free (view-of self .free ++ (getD (view-of self .logs) 0 0 ∷ [])) (view-of self)) ⌝ }
         ensures block { λ r. ⌜ r .1 .0 ≡ getD (view-of self .logs) 0 0 ⌝ }
+        ensures roles { λ r. ⌜ Led (self .sizes .blocks) (view-of self) (turn erased (getD (view-of self .logs) 0 0) ∷ []) (view-of (r .0)) ⌝ }
         ensures sized { λ r. ⌜ Sized (r .0) self ⌝ }
         ensures logs { λ r. ⌜ vec-len (r .0 .rw .blocks) + 1 ≡ vec-len (self .rw .blocks) ⌝ }
         ensures entries { λ r. ⌜ vec-len (r .0 .rw .entries) ≡ vec-len (self .rw .entries) - self .sizes .pages ⌝ }

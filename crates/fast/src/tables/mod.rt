@@ -19,6 +19,7 @@ pub(crate) mod free;
 pub(crate) mod place;
 pub(crate) mod random;
 pub(crate) mod sequential;
+pub(crate) mod standing;
 
 // How large a layer is: the pages of a block, the logical blocks, the most random log blocks, and the blocks of the device.
 #[derive(Drop)]

@@ -10,7 +10,7 @@ use Rattle.std.specs.declared.option.Option.the-variants.{Some, None}
 use Rattle.scheme.specs.Tables.{stale-all}
 use Rattle.fast.specs.Views.{numbers, entries-view}
 use Rattle.fast.specs.Rules.{live-entries, busy, owner-of, fill-of}
-use Rattle.fast.proofs.Counts.{getD-numbers, live-stale, adopted-roles, adopted-view}
+use Rattle.fast.proofs.Counts.{getD-numbers, live-stale, adopted-roles, adopted-led, adopted-view}
 use Rattle.fast.proofs.tables.Tables.adopt.Needs as need
 
 pub ghost-result : need.ghost-result
@@ -78,6 +78,7 @@ returns c =
       tables = adopted-view (vec-items (t .map)) (vec-items (t .rw .blocks)) (vec-items (t .free .blocks)) _ _ (t .sw) k (c .pre .has) old h is-old logs free (t .sizes .pages) (vec-items (t .rw .entries)) _ (t .next) (c .expire-block .ensures .entries);
       none = refl;
       old = is-old;
+      roles = adopted-led (vec-items (t .map)) (vec-items (t .rw .blocks)) (vec-items (t .free .blocks)) _ _ (t .sw) k (c .pre .has) old h is-old logs free (t .sizes .blocks) (t .«one_role») (vec-items (t .rw .entries)) (vec-items (c .expire-block .last .self .entries)) (t .next) (t .next);
       sized = search needs;
       logged = (same-logs, c .expire-block .ensures .len);
     }

@@ -9,7 +9,7 @@ use Rattle.std.specs.Of.Vec.{vec-items, vec-len}
 use Rattle.scheme.specs.Tables.{stale-all}
 use Rattle.fast.specs.Views.{numbers, entries-view}
 use Rattle.fast.specs.Rules.{live-entries}
-use Rattle.fast.proofs.Counts.{getD-numbers, renewed-roles, renewed-view, live-stale}
+use Rattle.fast.proofs.Counts.{getD-numbers, renewed-roles, renewed-led, renewed-view, live-stale}
 use Rattle.fast.proofs.tables.Tables.renew.Needs as need
 
 pub ghost-result : need.ghost-result
@@ -70,6 +70,7 @@ returns c =
     record {
       tables = renewed-view (vec-items (t .map)) (vec-items (t .rw .blocks)) (vec-items (t .free .blocks)) _ _ (c .args .c .0) (c .take-new .result) old h k (c .take-new .ensures .block) is-old logs free (t .sizes .pages) (t .sw) (vec-items (t .rw .entries)) _ (t .next) (c .pre .unowned) (c .expire-block .ensures .entries);
       old = is-old;
+      roles = renewed-led (vec-items (t .map)) (vec-items (t .rw .blocks)) (vec-items (t .free .blocks)) _ _ (c .args .c .0) (c .take-new .result) old h k (c .take-new .ensures .block) is-old logs free (t .sizes .blocks) (t .sw) (t .«one_role») (vec-items (t .rw .entries)) (vec-items (c .expire-block .last .self .entries)) (t .next) (t .next);
       sized = search needs;
       logged = (ap vec-len (c .expire-block .ensures .blocks), c .expire-block .ensures .len);
     }

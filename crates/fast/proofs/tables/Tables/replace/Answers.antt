@@ -10,7 +10,7 @@ use Rattle.std.specs.declared.option.Option.the-variants.{Some, None}
 use Rattle.scheme.specs.Tables.{stale-all}
 use Rattle.fast.specs.Views.{numbers, entries-view}
 use Rattle.fast.specs.Rules.{live-entries, busy, owner-of, fill-of}
-use Rattle.fast.proofs.Counts.{getD-numbers, live-stale, replaced-roles, replaced-view}
+use Rattle.fast.proofs.Counts.{getD-numbers, live-stale, replaced-roles, replaced-led, replaced-view}
 use Rattle.fast.proofs.tables.Tables.replace.Needs as need
 
 pub ghost-result : need.ghost-result
@@ -79,6 +79,7 @@ returns c =
     record {
       tables = replaced-view (vec-items (t .map)) (vec-items (t .rw .blocks)) (vec-items (t .free .blocks)) _ _ (t .sw) k (c .pre .has) (c .take-new .result) old h some (c .take-new .ensures .block) is-old logs free (t .sizes .pages) (vec-items (t .rw .entries)) _ (t .next) (c .expire-block .ensures .entries);
       old = is-old;
+      roles = replaced-led (vec-items (t .map)) (vec-items (t .rw .blocks)) (vec-items (t .free .blocks)) _ _ (t .sw) k (c .pre .has) (c .take-new .result) old h some (c .take-new .ensures .block) is-old logs free (t .sizes .blocks) (t .«one_role») (vec-items (t .rw .entries)) (vec-items (c .expire-block .last .self .entries)) (t .next) (t .next);
       sized = search needs;
       logged = (same-logs, c .expire-block .ensures .len);
     }

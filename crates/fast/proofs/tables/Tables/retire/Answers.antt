@@ -13,7 +13,7 @@ use Rattle.scheme.specs.Tables as spec
 use Rattle.fast.specs.Views.{numbers, entries-view, sw-view}
 use Rattle.fast.specs.Rules.{live-entries, busy, owner-of, fill-of, uses, uses-sw}
 use Rattle.fast.specs.Meaning.{view-of}
-use Rattle.fast.proofs.Counts.{live-stale, live-drop, noted-live, moved, numbers-moved, numbers-rest}
+use Rattle.fast.proofs.Counts.{live-stale, live-drop, noted-live, moved, numbers-moved, numbers-rest, retired-led}
 use Rattle.fast.proofs.Entries.{views-drop}
 use Rattle.fast.proofs.tables.Tables.retire.Needs as need
 
@@ -70,6 +70,9 @@ returns c =
     record {
       tables = λ j. record { data-block = view-of t .data-block; sequential = view-of t .sequential; logs = l j; entries = e j; free = f j; next = t .next };
       block = c .retire-block .ensures .block;
+      roles =
+          retired-led (t .sizes .blocks) (vec-items (t .map)) (vec-items (t .rw .entries)) (vec-items (c .retire-block .last .self .entries)) (t .next) (t .next) (t .sw) (vec-items (t .rw .blocks)) _ (vec-items (t .free .blocks)) _ (c .retire-block .result) (t .«one_role»)
+          (omega (arith, t .rw .blocks .ok .0, c .pre .some)) (c .retire-block .ensures .block) (c .retire-block .ensures .blocks) (c .put .ensures .items);
       sized = search needs;
       logs = c .retire-block .ensures .blocks-len;
       entries = omega (arith, ap length (c .retire-block .ensures .entries), length-drop (t .sizes .pages) (vec-items (t .rw .entries)), t .rw .entries .ok .0, c .retire-block .last .self .entries .ok .0);

@@ -13,7 +13,7 @@ use Rattle.scheme.specs.Tables as spec
 use Rattle.fast.specs.Views.{numbers, entries-view, sw-view}
 use Rattle.fast.specs.Rules.{live-entries, busy, owner-of, fill-of, uses, uses-sw}
 use Rattle.fast.specs.Meaning.{view-of}
-use Rattle.fast.proofs.Counts.{live-stale, live-drop, noted-live, moved, numbers-moved, numbers-rest}
+use Rattle.fast.proofs.Counts.{live-stale, live-drop, noted-live, moved, numbers-moved, numbers-rest, logged-led}
 use Rattle.fast.proofs.Entries.{views-drop}
 use Rattle.fast.proofs.tables.Tables.take_log.Needs as need
 
@@ -69,6 +69,9 @@ returns c =
     let more = ap (λ n. t .sizes .pages * n) (c .add .ensures .len) in
     record {
       tables = λ j. record { data-block = view-of t .data-block; sequential = view-of t .sequential; logs = l j; entries = e j; free = f j; next = t .next };
+      roles =
+          logged-led (t .sizes .blocks) (vec-items (t .map)) (vec-items (t .rw .entries)) (vec-items (c .add .last .self .entries)) (t .next) (t .next) (t .sw) (vec-items (t .rw .blocks)) _ (vec-items (t .free .blocks)) _ (c .take-block .result) (t .«one_role»)
+          (omega (arith, t .free .blocks .ok .0, c .pre .some)) (c .take-block .ensures .block) (c .take-block .ensures .items) (c .add .ensures .blocks);
       sized = search needs;
       room = omega (arith, more, ap vec-len (c .add .ensures .entries), t .sizes .«pages_fit», t .«entries_fit»);
     }
