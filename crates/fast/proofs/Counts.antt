@@ -1,9 +1,9 @@
 -- Blocks in a changed list, and live entries in a changed list.
-use Prim.Native.Nat.{ℕ, zero, suc, _+_, _*_, _/_, _<_, _≤_}
+use Prim.Native.Nat.{ℕ, zero, suc, _+_, _/_, _<_, _≤_}
 use lib.Dec.{eqb, ltb}
 use lib.ListN.{getD, length, set, drop}
 use mathlib.Core.Bool.{Bool, true, false, cond}
-use mathlib.Core.Logic.{_≢_, _⊎_, inl, inr}
+use mathlib.Core.Logic.{_≢_, inl, inr}
 use mathlib.Core.List.{List, [], _∷_, _++_, append-assoc}
 use mathlib.Core.Path.{_≡_, refl, sym, _∙_, ap, ap₂, fun-ext}
 use native.Mathlib.Omega.{arith}
@@ -14,9 +14,8 @@ use Rattle.flash.specs.declared.numbers.Block.{Block}
 use Rattle.scheme.specs.Functions.{upd}
 use Rattle.scheme.specs.Roles.{Led, after, taken-as-data, taken-as-sequential, taken-as-random, finished, erased}
 use Rattle.scheme.specs.Steps.{merged, turn}
-use Rattle.scheme.specs.Tables.{Entry, live, stale, stale-if, stale-all, Sequential, owned, released}
+use Rattle.scheme.specs.Tables.{Entry, live, stale, stale-all, Sequential, owned, released}
 use Rattle.scheme.proofs.Updates.{upd-both}
-use Rattle.scheme.specs.Tables as spec
 use Rattle.fast.specs.declared.tables.sequential.Sw.{Sw}
 use Rattle.fast.specs.declared.tables.random.Entry as code
 use Rattle.fast.specs.Views.{numbers, view, sw-view, entries-view}

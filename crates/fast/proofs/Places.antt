@@ -1,11 +1,10 @@
 -- Where a sector is read, by what the code finds.
-use Prim.Native.Nat.{ℕ, _+_, _*_, _/_, _%_, _<_}
-use mathlib.Core.Path.{_≡_, refl, sym, _∙_, ap}
-use mathlib.Core.Bool.{Bool, true, false, cond, _&&_}
+use Prim.Native.Nat.{ℕ, _+_, _*_}
+use mathlib.Core.Path.{_≡_, refl, sym}
+use mathlib.Core.Bool.{true, false, _&&_}
 use lib.Dec.{eqb, ltb}
-use Rattle.std.specs.declared.option.Option.{Option}
 use Rattle.std.specs.declared.option.Option.the-variants.{Some, None}
-use Rattle.scheme.specs.Place.{Place, place, behind, entry-of, entry-place, sequential-place}
+use Rattle.scheme.specs.Place.{place, behind, entry-of, entry-place}
 use Rattle.scheme.specs.Tables.{Tables, Sequential}
 
 pub behind-random : (P : ℕ) (t : Tables) (c o i : ℕ) → Some i ≡ entry-of (c * P + o) 0 (t .entries) → entry-place P (t .logs) i ≡ behind P t c o

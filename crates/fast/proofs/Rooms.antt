@@ -1,20 +1,19 @@
 -- The steps of overwrites, by what their parts leave.
-use Prim.Native.Nat.{ℕ, zero, suc, _+_, _*_, _/_, _%_, _<_, _≤_}
-use mathlib.Core.Path.{_≡_, refl, sym, _∙_, ap, ap₂, subst, subst₂}
+use Prim.Native.Nat.{ℕ, suc, _+_, _*_, _/_, _%_, _<_, _≤_}
+use mathlib.Core.Path.{_≡_, refl, sym, ap, ap₂, subst, subst₂}
 use mathlib.Core.Logic.{_≢_}
 use mathlib.Core.List.{List, [], _∷_, _++_}
 use native.Mathlib.Omega.{arith}
-use lib.Dec.{eqb, ltb}
+use lib.Dec.{eqb}
 use lib.ListN.{length, getD, drop}
-use Rattle.std.specs.declared.option.Option.{Option}
-use Rattle.std.specs.declared.option.Option.the-variants.{Some, None}
+use Rattle.std.specs.declared.option.Option.the-variants.{Some}
 use Rattle.std.proofs.shelf.Tests.{eq-eqb, ne-eqb, lt-ltb, le-ltb}
-use Rattle.flash.specs.Meaning.{Flash, Page, blank, holds}
+use Rattle.flash.specs.Meaning.{Flash, Page}
 use Rattle.flash.specs.Calls.{erased}
 use Rattle.flash.specs.declared.numbers.Block.{Block}
-use Rattle.scheme.specs.Steps.{Fresh, visit, retire, reclaim, thinned, take-log, make-room, append-random, write-random, settle-owner, open-sequential, write-start, append-sequential, settle, merge-free, write-sequential}
+use Rattle.scheme.specs.Steps.{visit, retire, reclaim, thinned, take-log, make-room, append-random, write-random, settle-owner, open-sequential, write-start, append-sequential, settle, merge-free, write-sequential}
 use Rattle.scheme.specs.Tables.{Tables, Sequential, live, with-random, with-free, stale-all}
-use Rattle.scheme.specs.Work.{State, Work, each, put-page, idle, _then_}
+use Rattle.scheme.specs.Work.{State, Work, each, put-page, _then_}
 use Rattle.fast.specs.Views.{numbers}
 use Rattle.fast.specs.Leaves.{at, Left}
 use Rattle.fast.proofs.Visited.{left-then}

@@ -4,12 +4,11 @@ use lib.Dec.{ltb}
 use lib.ListN.{getD, length, drop}
 use lib.Seq.{drop-cons}
 use mathlib.Core.Bool.{true, false}
-use mathlib.Core.List.{List, [], _∷_}
+use mathlib.Core.List.{List}
 use mathlib.Core.Logic.{_≢_}
 use mathlib.Core.Path.{_≡_, refl, sym, _∙_, ap}
 use native.Mathlib.Numerals.{add-one}
 use native.Mathlib.Omega.{arith}
-use native.Mathlib.Nat.{zero-add}
 use Rattle.std.proofs.shelf.Lists.{drop-all}
 use Rattle.std.proofs.shelf.Tests.{eq-eqb, ne-eqb, lt-ltb}
 use Rattle.flash.specs.declared.numbers.Block.{Block}

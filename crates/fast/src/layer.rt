@@ -29,7 +29,6 @@ use crate::numbers::LogicalBlock;
 use crate::refusal::Refusal;
 use crate::roles::Role;
 use crate::start::start_tables;
-use crate::steps::Step;
 use crate::steps::copies::vacant;
 use crate::steps::writes::write_accepted;
 use crate::tables::Sizes;

@@ -3,9 +3,8 @@
 // It is here for what its contract says. A layer's read and write speak of the run that led to them; this call has the whole run in its
 // hands, and so states the law outright, of the very replies that it gives back.
 
-ghost use Prim.Native.Nat.{_≤_, _+_};
-ghost use lib.ListN.{length};
-ghost use mathlib.Core.List.{List, []};
+ghost use Prim.Native.Nat.{_≤_};
+ghost use mathlib.Core.List.{[]};
 ghost use mathlib.Core.Path.{_≡_};
 ghost use Rattle.std.specs.Of.Vec.{vec-items, vec-len, vec-cap};
 ghost use Rattle.std.specs.Vec.{made, refused};

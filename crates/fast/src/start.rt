@@ -1,6 +1,6 @@
 // The tables that format leaves. Every list is reserved here for as long as it can ever be, so that no later call allocates.
 
-ghost use Prim.Native.Nat.{_+_, _-_, _≤_};
+ghost use Prim.Native.Nat.{_-_, _≤_};
 ghost use mathlib.Core.Path.{_≡_};
 ghost use Rattle.std.specs.Of.Vec.{vec-len, vec-items, vec-cap};
 ghost use Rattle.std.specs.Vec.{made};

@@ -1,6 +1,6 @@
 -- The worked run, by computation.
 use mathlib.Core.Path.{_≡_, refl}
-use mathlib.Core.List.{List, [], _∷_, _++_}
+use mathlib.Core.List.{[], _∷_, _++_}
 use lib.ListN.{replicate}
 use Rattle.scheme.specs.Functions.{upd}
 use Rattle.scheme.specs.Place.{place}

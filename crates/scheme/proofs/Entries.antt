@@ -2,17 +2,16 @@
 use Prim.Native.Nat.{ℕ, zero, suc, _+_, _<_, _≤_}
 use mathlib.Core.Path.{_≡_, refl, sym, _∙_, ap}
 use mathlib.Core.Logic.{_≢_, _⊎_, inl, inr}
-use mathlib.Core.Bool.{Bool, true, false, cond}
-use mathlib.Core.List.{List, [], _∷_, _++_, map}
+use mathlib.Core.Bool.{Bool, false, cond}
+use mathlib.Core.List.{List, [], _∷_, _++_}
 use native.Mathlib.Omega.{arith}
 use native.Mathlib.Nat.{add-suc, suc-add, add-zero}
 use lib.Dec.{eqb}
-use lib.ListN.{length, getD, drop, take, List·getD-map}
+use lib.ListN.{length, getD, drop, List·getD-map}
 use Rattle.std.proofs.shelf.Lists.{getD-drop}
 use Rattle.std.specs.declared.option.Option.{Option}
 use Rattle.std.specs.declared.option.Option.the-variants.{Some, None}
-use Rattle.std.specs.shelf.Lists.{All}
-use Rattle.std.proofs.shelf.Tests.{cond-both, cases-eq, cases-bool, eq-eqb, ne-eqb, eqb-true, eqb-false}
+use Rattle.std.proofs.shelf.Tests.{cond-both, cases-eq, cases-bool, eq-eqb, ne-eqb, eqb-false}
 use Rattle.scheme.specs.Place.{entry-of}
 use Rattle.scheme.specs.Tables.{Entry, live, stale, stale-if, stale-all}
 

@@ -1,29 +1,27 @@
 -- What format leaves.
-use Prim.Native.Nat.{ℕ, zero, suc, _+_, _*_, _/_, _%_, _-_, _<_, _≤_}
+use Prim.Native.Nat.{ℕ, zero, suc, _+_, _-_, _<_, _≤_}
 use mathlib.Core.Path.{_≡_, refl, sym, _∙_, ap, subst}
-use mathlib.Core.Logic.{_≢_, _⊎_, inl, inr}
-use mathlib.Core.Bool.{Bool, true, false, cond}
-use mathlib.Core.List.{List, [], _∷_}
+use mathlib.Core.Logic.{_≢_}
+use mathlib.Core.Bool.{cond}
+use mathlib.Core.List.{[]}
 use native.Mathlib.Omega.{arith}
 use native.Mathlib.Nat.{zero-add}
 use lib.Dec.{ltb}
-use lib.ListN.{length, getD}
+use lib.ListN.{length}
 use Rattle.std.specs.Options.{isSome}
-use Rattle.std.specs.declared.option.Option.{Option}
-use Rattle.std.specs.declared.option.Option.the-variants.{Some, None}
+use Rattle.std.specs.declared.option.Option.the-variants.{None}
 use Rattle.std.specs.shelf.Lists.{All}
-use Rattle.std.proofs.shelf.Tests.{cases-eq, lt-ltb, le-ltb}
-use Rattle.flash.specs.Meaning.{Flash, Page, blank}
-use Rattle.scheme.specs.Functions.{upd}
-use Rattle.scheme.specs.Place.{Place, place, entry-of}
-use Rattle.scheme.specs.Steps.{formatted, rising, page-of}
-use Rattle.scheme.specs.Tables.{Tables, Sequential}
-use Rattle.scheme.specs.Work.{each, line, State, Work, do-erase}
+use Rattle.std.proofs.shelf.Tests.{lt-ltb, le-ltb}
+use Rattle.flash.specs.Meaning.{Flash, blank}
+use Rattle.scheme.specs.Place.{place}
+use Rattle.scheme.specs.Steps.{formatted, rising}
+use Rattle.scheme.specs.Tables.{Tables}
+use Rattle.scheme.specs.Work.{each, line, State, do-erase}
 use Rattle.scheme.proofs.Plain.{erased, erases}
 use Rattle.flash.specs.Calls as calls
-use Rattle.scheme.proofs.Updates.{upd-same, upd-other, upd-both, Apart}
-use Rattle.scheme.proofs.Roles.{Use, free, data-of, outside, busy, Roles}
-use Rattle.scheme.proofs.Held.{Held, Inv}
+use Rattle.scheme.proofs.Updates.{upd-other, upd-both, Apart}
+use Rattle.scheme.proofs.Roles.{Use, free, data-of, outside}
+use Rattle.scheme.proofs.Held.{Inv}
 
 -- the blocks below n are blank and have one erase more, and all else is as it was
 pub record Cleaned (s w : State) (n : ℕ) : Type 0 where

@@ -1,37 +1,35 @@
 -- What the pages hold: each sector's place has its ledger line, and what is to be programmed next is blank.
-use Prim.Native.Nat.{ℕ, zero, suc, _+_, _*_, _/_, _%_, _-_, _<_, _≤_}
-use mathlib.Core.Path.{_≡_, refl, sym, _∙_, ap, subst}
-use mathlib.Core.Logic.{_≢_, _⊎_, inl, inr}
-use mathlib.Core.Bool.{Bool, true, false, cond, _&&_}
-use mathlib.Core.List.{List, [], _∷_, _++_, map}
+use Prim.Native.Nat.{ℕ, _+_, _*_, _/_, _-_, _<_, _≤_}
+use mathlib.Core.Path.{_≡_, refl, sym, _∙_, ap}
+use mathlib.Core.Logic.{_≢_, inl, inr}
+use mathlib.Core.Bool.{true}
+use mathlib.Core.List.{List, [], _∷_, map}
 use native.Mathlib.Omega.{arith}
-use native.Mathlib.Nat.{div-add-mod'}
-use lib.Arith.{digits-div, digits-mod, digits-lt}
-use lib.Dec.{eqb, ltb}
+use lib.Arith.{digits-div}
+use lib.Dec.{eqb}
 use lib.ListN.{length, getD}
 use Rattle.std.specs.Options.{isSome}
 use Rattle.std.specs.declared.option.Option.{Option}
 use Rattle.std.specs.declared.option.Option.the-variants.{Some, None}
 use Rattle.std.specs.shelf.Lists.{All}
-use Rattle.std.proofs.shelf.Lists.{length-map, length-append}
+use Rattle.std.proofs.shelf.Lists.{length-map}
 use Rattle.std.proofs.shelf.Elements.{all-append, all-weaker, all-getD}
-use Rattle.std.proofs.shelf.Tests.{cond-both, cases-eq, cases-bool, eq-eqb, ne-eqb, eqb-true, eqb-false}
+use Rattle.std.proofs.shelf.Tests.{cond-both, cases-eq, eq-eqb, ne-eqb, eqb-false}
 use Rattle.flash.specs.Meaning.{Flash, Page, blank}
-use Rattle.scheme.specs.Asks.{Sound}
 use Rattle.scheme.specs.Functions.{upd}
-use Rattle.scheme.specs.Place.{Place, place, placed, or-else, entry-of, sequential-place}
+use Rattle.scheme.specs.Place.{Place, place, entry-of}
 use Rattle.scheme.specs.Roles.{Event, Change}
 use Rattle.scheme.specs.Steps.{merged, page-of, merge, Fresh, transfer, turn}
-use Rattle.scheme.specs.Tables.{Tables, Sequential, Entry, stale-all, released}
-use Rattle.scheme.specs.Work.{each, line, State, Work, erase-all, do-erase, idle, _then_, retable}
+use Rattle.scheme.specs.Tables.{Sequential, stale-all}
+use Rattle.scheme.specs.Work.{each, line, State, erase-all, _then_, retable}
 use Rattle.scheme.proofs.Plain.{with-pages, erased}
-use Rattle.scheme.proofs.Updates.{upd-same, upd-other, upd-both, Apart}
+use Rattle.scheme.proofs.Updates.{upd-same, upd-other, upd-both}
 use Rattle.scheme.proofs.Entries.{entry-stale}
-use Rattle.scheme.proofs.Roles.{Use, free, data-of, sequential, random, outside, kind, busy, Roles, data-same, other-kind, unlike, place-busy, place-apart, place-inside, place-page}
+use Rattle.scheme.proofs.Roles.{Use, free, data-of, sequential, random, Roles, data-same, unlike, place-busy, place-apart, place-inside, place-page}
 use Rattle.scheme.specs.Roles as spec
 use Rattle.scheme.proofs.Changes.{role-told}
-use Rattle.scheme.proofs.Merges.{merged-led, Merge, released-is, released-own, released-other, ρ′, merged-to, merged-roles, marked-free, marked, to-inside, dead-inside}
-use Rattle.scheme.proofs.Works.{Does, does-then, does-to, does-idle, does-table, erase-does, paged, row, row-before, row-in, source, Fresh-marked, filled-row, filled-to, copies-does}
+use Rattle.scheme.proofs.Merges.{merged-led, Merge, released-is, released-own, released-other, ρ′, merged-to, merged-roles, marked-free, to-inside, dead-inside}
+use Rattle.scheme.proofs.Works.{Does, does-then, does-to, does-idle, does-table, erase-does, paged, row, source, Fresh-marked, copies-does}
 
 pub record Held (P L : ℕ) (l : ℕ → Option (List ℕ)) (s : State) : Type 0 where
   pub view : (c o : ℕ) → c < L → o < P → line (page-of P s c o) ≡ l (c * P + o)

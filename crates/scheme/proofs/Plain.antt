@@ -1,10 +1,10 @@
 -- What a program and an erase leave where the device does not refuse them.
 use Prim.Native.Nat.{ℕ, _+_, _<_}
-use mathlib.Core.Path.{_≡_, refl, sym, _∙_, ap, ap₂, subst, fun-ext}
-use mathlib.Core.Logic.{_≢_, _⊎_, inl, inr}
-use mathlib.Core.Bool.{Bool, true, false, cond, _&&_}
+use mathlib.Core.Path.{_≡_, refl, sym, _∙_, ap, ap₂, fun-ext}
+use mathlib.Core.Logic.{_≢_, inl, inr}
+use mathlib.Core.Bool.{cond, _&&_}
 use mathlib.Core.List.{List}
-use lib.Dec.{eqb, ltb}
+use lib.Dec.{eqb}
 use lib.ListN.{length}
 use native.Mathlib.Omega.{arith}
 use Rattle.std.proofs.shelf.Tests.{eq-eqb, ne-eqb, lt-ltb, cases-eq}
@@ -12,7 +12,7 @@ use Rattle.flash.specs.Meaning.{Flash, Page, blank, holds}
 use Rattle.flash.specs.Calls as calls
 use Rattle.scheme.specs.Functions.{upd}
 use Rattle.scheme.specs.Work.{put-page, seen}
-use Rattle.scheme.proofs.Updates.{upd-same, upd-other, upd-self}
+use Rattle.scheme.proofs.Updates.{upd-self}
 
 -- the flash with other pages
 abbrev pub with-pages : Flash → (ℕ → ℕ → Page) → Flash

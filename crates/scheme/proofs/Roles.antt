@@ -1,23 +1,21 @@
 -- The roles of the blocks: what the tables say of them, and that the place of a sector is never in a free block.
-use Prim.Native.Nat.{ℕ, zero, suc, _+_, _*_, _/_, _%_, _<_, _≤_}
-use mathlib.Core.Path.{_≡_, refl, sym, _∙_, ap, subst}
-use mathlib.Core.Logic.{_≢_, _⊎_, inl, inr, ⊎-elim}
-use mathlib.Core.Bool.{Bool, true, false, cond, _&&_}
-use mathlib.Core.List.{List, [], _∷_, _++_, map}
+use Prim.Native.Nat.{ℕ, _+_, _*_, _/_, _<_, _≤_}
+use mathlib.Core.Path.{_≡_, refl, sym, _∙_, ap}
+use mathlib.Core.Logic.{_≢_, inl, inr}
+use mathlib.Core.Bool.{_&&_}
 use native.Mathlib.Omega.{arith}
-use native.Mathlib.Nat.{div-lt-iff-lt-mul, mul-comm, mod-lt}
+use native.Mathlib.Nat.{div-lt-iff-lt-mul, mod-lt}
 use lib.Dec.{eqb, ltb}
-use lib.ListN.{length, getD}
+use lib.ListN.{length}
 use Rattle.std.specs.declared.option.Option.{Option}
 use Rattle.std.specs.declared.option.Option.the-variants.{Some, None}
 use Rattle.std.specs.shelf.Lists.{All}
-use Rattle.std.proofs.shelf.Elements.{all-push, all-getD}
-use Rattle.std.proofs.shelf.Tests.{eq-eqb, ne-eqb, cond-true, cond-false, cases-eq, cases-lt, cond-both, and-parts, eqb-true, ltb-true}
-use Rattle.scheme.specs.Functions.{upd}
-use Rattle.scheme.specs.Place.{Place, place, or-else, entry-of, sequential-place, random-place, entry-place}
-use Rattle.scheme.specs.Tables.{Tables, Sequential, Entry, live, stale}
+use Rattle.std.proofs.shelf.Elements.{all-getD}
+use Rattle.std.proofs.shelf.Tests.{cases-lt, cond-both, and-parts, eqb-true, ltb-true}
+use Rattle.scheme.specs.Place.{Place, place, entry-of, sequential-place, entry-place}
+use Rattle.scheme.specs.Tables.{Tables, Sequential}
 use Rattle.scheme.proofs.Entries.{entry-in, Once}
-use Rattle.scheme.proofs.Updates.{upd-same, upd-other, upd-both, Apart}
+use Rattle.scheme.proofs.Updates.{Apart}
 
 pub data Use : Type 0 where
   free : Use

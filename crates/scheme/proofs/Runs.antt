@@ -1,11 +1,11 @@
 -- Every run on a formatted layer answers as the ledger does, asks only what is sound, and wears the device no more than allowed.
-use Prim.Native.Nat.{ℕ, zero, suc, _+_, _*_, _/_, _%_, _-_, _<_, _≤_, min}
+use Prim.Native.Nat.{ℕ, zero, suc, _+_, _*_, _/_, _%_, _<_, _≤_, min}
 use mathlib.Core.Path.{_≡_, refl, sym, _∙_, ap, ap₂, subst}
-use mathlib.Core.Logic.{_≢_, _⊎_, inl, inr}
+use mathlib.Core.Logic.{inl, inr}
 use mathlib.Core.Bool.{Bool, true, false, cond, _&&_}
-use mathlib.Core.List.{List, [], _∷_, _++_, map}
+use mathlib.Core.List.{List, [], _∷_, _++_}
 use native.Mathlib.Omega.{arith}
-use native.Mathlib.Nat.{div-lt-iff-lt-mul, div-add-mod', mod-lt, mul-le-mul-left, zero-mul}
+use native.Mathlib.Nat.{div-lt-iff-lt-mul, div-add-mod', mod-lt, mul-le-mul-left}
 use lib.Dec.{eqb, ltb, leb}
 use lib.ListN.{length}
 use Rattle.std.specs.Options.{isSome}
@@ -14,23 +14,23 @@ use Rattle.std.specs.declared.option.Option.the-variants.{Some, None}
 use Rattle.std.specs.shelf.Lists.{All}
 use Rattle.std.proofs.shelf.Elements.{all-weaker}
 use Rattle.std.proofs.shelf.Tests.{cases-bool, cases-lt, cases-eq, ltb-true, ltb-false, leb-true, leb-false, le-ltb, lt-ltb, eqb-true, and-parts, and-from, or-parts}
-use Rattle.flash.specs.Meaning.{Flash, Page, blank, holds}
+use Rattle.flash.specs.Meaning.{Flash, blank}
 use Rattle.scheme.specs.Asks.{Sound, Unrefused}
 use Rattle.scheme.specs.Functions.{sum-below, some-below, upd}
-use Rattle.scheme.specs.Law.{told, all-told, erases, Call-counted, Roles-right, Law, Lawful, Every-run-is-lawful, Every-call-is-lawful}
-use Rattle.scheme.specs.Ledger.{Call, read, write, Answer, refused, wrote, Reply, Ledger, shown, reads, empty, entered, ledger-next, ledger-after, Answered, All-answered}
+use Rattle.scheme.specs.Law.{told, all-told, erases, Call-counted, Roles-right, Law, Every-run-is-lawful, Every-call-is-lawful}
+use Rattle.scheme.specs.Ledger.{Call, read, write, refused, wrote, Reply, Ledger, shown, reads, empty, entered, ledger-next, ledger-after, Answered, All-answered}
 use Rattle.scheme.specs.Place.{place}
-use Rattle.scheme.specs.Roles.{Led, Tables-right, led, role-of}
-use Rattle.scheme.specs.Runs.{Start, Layer, Outcome, unchanged, call, write-refusal, replaces, worn, content, Turn, turns, last-layer, replies-of, most-erases, format, fit, geometry-fits, nothing, no-tables}
+use Rattle.scheme.specs.Roles.{Tables-right, led, role-of}
+use Rattle.scheme.specs.Runs.{Start, Layer, Outcome, unchanged, call, write-refusal, replaces, worn, content, Turn, turns, last-layer, replies-of, most-erases, format, fit, geometry-fits, nothing}
 use Rattle.scheme.specs.Steps.{page-of, seen-of, formatted, write as write-steps}
 use Rattle.scheme.specs.Tables.{Tables}
-use Rattle.scheme.specs.Work.{State, Work, Moment, seen, line}
+use Rattle.scheme.specs.Work.{State, line}
 use Rattle.scheme.proofs.Partition.{tables-right}
-use Rattle.scheme.proofs.Works.{Marked, Does, Done, Ready, Wears, Marks, Allowed, unrefused}
+use Rattle.scheme.proofs.Works.{Marked, Wears, Marks, Allowed, unrefused}
 use Rattle.scheme.proofs.Plain.{sees}
 use Rattle.scheme.proofs.Roles.{data-of, inside, place-inside, place-page}
 use Rattle.scheme.proofs.Held.{Inv}
-use Rattle.scheme.proofs.Overwrites.{Wrote, charge}
+use Rattle.scheme.proofs.Overwrites.{charge}
 use Rattle.scheme.proofs.Accepted.{writes}
 use Rattle.scheme.proofs.Formats.{formats, format-cleans}
 

@@ -1,32 +1,27 @@
 -- The writes that program one page: the first write of a sector, and those into the log blocks.
-use Prim.Native.Nat.{ℕ, zero, suc, _+_, _*_, _/_, _%_, _-_, _<_, _≤_}
-use mathlib.Core.Path.{_≡_, refl, sym, _∙_, ap, ap₂, subst}
-use mathlib.Core.Logic.{_≢_, _⊎_, inl, inr}
-use mathlib.Core.Bool.{Bool, true, false, cond, _&&_}
-use mathlib.Core.List.{List, [], _∷_, _++_, map}
+use Prim.Native.Nat.{ℕ, _+_, _*_, _/_, _%_, _<_}
+use mathlib.Core.Path.{_≡_, refl, sym, _∙_, ap, ap₂}
+use mathlib.Core.Logic.{_≢_, inl, inr}
+use mathlib.Core.Bool.{true, false}
+use mathlib.Core.List.{List, [], _∷_}
 use native.Mathlib.Omega.{arith}
-use native.Mathlib.Nat.{div-add-mod', mod-lt, add-zero}
-use lib.Arith.{digits-div, digits-mod, digits-lt}
-use lib.Dec.{eqb, ltb}
-use lib.ListN.{length, getD}
+use lib.Arith.{digits-div, digits-mod}
+use lib.ListN.{getD}
 use Rattle.std.specs.Options.{isSome}
 use Rattle.std.specs.declared.option.Option.{Option}
-use Rattle.std.specs.declared.option.Option.the-variants.{Some, None}
+use Rattle.std.specs.declared.option.Option.the-variants.{Some}
 use Rattle.std.specs.shelf.Lists.{All}
-use Rattle.std.proofs.shelf.Lists.{length-map, length-append}
-use Rattle.std.proofs.shelf.Elements.{all-append, all-weaker, all-getD}
-use Rattle.std.proofs.shelf.Tests.{cond-both, cases-eq, cases-bool, cases-lt, eq-eqb, ne-eqb, eqb-true, eqb-false, lt-ltb, le-ltb, and-from}
-use Rattle.flash.specs.Meaning.{Flash, Page, blank}
+use Rattle.std.proofs.shelf.Elements.{all-getD}
+use Rattle.std.proofs.shelf.Tests.{cases-eq}
+use Rattle.flash.specs.Meaning.{Page, blank}
 use Rattle.scheme.specs.Functions.{upd}
-use Rattle.scheme.specs.Place.{Place, place, placed, entry-place, entry-of, sequential-place, or-else}
-use Rattle.scheme.specs.Steps.{page-of, write-first}
-use Rattle.scheme.specs.Tables.{Tables, Sequential, Entry, live, stale, stale-all, owned, released}
-use Rattle.scheme.specs.Work.{line, State, Work}
-use Rattle.scheme.proofs.Plain.{programmed}
-use Rattle.scheme.proofs.Updates.{upd-same, upd-other, upd-both, Apart}
-use Rattle.scheme.proofs.Entries.{entry-stale, entry-push-same, entry-push-other}
-use Rattle.scheme.proofs.Roles.{Use, free, data-of, sequential, random, outside, kind, busy, Roles, data-same, other-kind, unlike, place-busy, Where, where-is, in-sequential, in-random, in-data, entry-role}
-use Rattle.scheme.proofs.Works.{Does, does-then, does-to, does-idle, program-does, put}
+use Rattle.scheme.specs.Place.{Place, place}
+use Rattle.scheme.specs.Steps.{page-of}
+use Rattle.scheme.specs.Tables.{Tables}
+use Rattle.scheme.specs.Work.{line, State}
+use Rattle.scheme.proofs.Updates.{upd-same, upd-other, upd-both}
+use Rattle.scheme.proofs.Roles.{Use, free, data-of, sequential, random, Roles, data-same, other-kind, where-is, in-sequential, in-random, in-data}
+use Rattle.scheme.proofs.Works.{put}
 use Rattle.scheme.proofs.Held.{Held, Inv}
 
 -- two offsets with one sector number are the same

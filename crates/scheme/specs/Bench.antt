@@ -3,8 +3,8 @@ use Prim.Native.Nat.{ℕ}
 use mathlib.Core.Path.{_≡_}
 use mathlib.Core.List.{List, [], _∷_, _++_}
 use lib.ListN.{replicate}
-use Rattle.flash.specs.Meaning.{Flash, blank}
-use Rattle.scheme.specs.Ledger.{Answer, Call, write, wrote, refused, never-written, bytes, Reply}
+use Rattle.flash.specs.Meaning.{blank}
+use Rattle.scheme.specs.Ledger.{Answer, Call, write, wrote, Reply}
 use Rattle.scheme.specs.Runs.{Start, replies}
 
 abbrev pub bench : Start

@@ -3,7 +3,7 @@ use Prim.Native.Nat.{ℕ, _+_, _/_, _<_, _≤_}
 use mathlib.Core.Path.{_≡_}
 use mathlib.Core.List.{List, [], _∷_, _++_}
 use Rattle.std.specs.shelf.Lists.{All}
-use Rattle.flash.specs.Meaning.{Flash, blank}
+use Rattle.flash.specs.Meaning.{blank}
 use Rattle.scheme.specs.Asks.{Sound, Unrefused}
 use Rattle.scheme.specs.Functions.{sum-below}
 use Rattle.scheme.specs.Ledger.{Call, Answer, refused, never-written, bytes, wrote, Reply, Ledger, empty, ledger-after, All-answered}

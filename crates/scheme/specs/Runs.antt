@@ -9,7 +9,7 @@ use Rattle.std.specs.declared.option.Option.{Option}
 use Rattle.std.specs.declared.option.Option.the-variants.{Some, None}
 use Rattle.flash.specs.Meaning.{Flash}
 use Rattle.scheme.specs.Functions.{some-below}
-use Rattle.scheme.specs.Ledger.{Call, read, write, Answer, refused, wrote, Reply, reads}
+use Rattle.scheme.specs.Ledger.{Call, read, write, refused, wrote, Reply, reads}
 use Rattle.scheme.specs.Roles.{Change}
 use Rattle.scheme.specs.Steps.{seen-of, formatted, write as write-steps}
 use Rattle.scheme.specs.Tables.{Tables}

@@ -3,10 +3,10 @@
 // tables once. A block that is given up goes to the back of the free list here; the caller erases it before anything else.
 
 ghost use mathlib.Core.Path.{_≡_};
-ghost use mathlib.Core.List.{List, [], _∷_, _++_};
-ghost use Prim.Native.Nat.{ℕ, _+_, _*_, _-_, _<_, _≤_};
-ghost use lib.ListN.{length, drop, getD};
-ghost use Rattle.std.specs.Of.Vec.{vec-len, vec-items, vec-cap};
+ghost use mathlib.Core.List.{[], _∷_, _++_};
+ghost use Prim.Native.Nat.{_+_, _*_, _-_, _<_, _≤_};
+ghost use lib.ListN.{drop, getD};
+ghost use Rattle.std.specs.Of.Vec.{vec-len, vec-items};
 ghost use Rattle.std.specs.declared.option.Option.the-variants.{Some, None};
 ghost use lib.Dec.{eqb};
 ghost use Rattle.scheme.specs.Roles.{Led, taken-as-data, taken-as-sequential, taken-as-random, finished, erased};

@@ -1,5 +1,5 @@
 use Prim.Native.Nat.{_+_}
-use mathlib.Core.Path.{_≡_, sym, _∙_, ap}
+use mathlib.Core.Path.{sym, _∙_, ap}
 use mathlib.Core.Bool.{not, _&&_}
 use lib.Dec.{ltb}
 use Rattle.std.specs.declared.option.Option.the-variants.{Some}

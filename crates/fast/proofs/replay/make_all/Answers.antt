@@ -1,10 +1,10 @@
-use mathlib.Core.Path.{_≡_, refl, sym, _∙_, ap, subst}
+use mathlib.Core.Path.{refl, sym, _∙_, ap, subst}
 use native.Mathlib.Omega.{arith}
 use lib.ListN.{length}
 use Rattle.std.specs.Of.IntoIter.{into-iter-items}
 use Rattle.std.specs.Of.Vec.{vec-items}
 use Rattle.scheme.specs.Runs.{last-layer, replies-of}
-use Rattle.fast.specs.Replay.{calls-told, replies-told}
+use Rattle.fast.specs.Replay.{calls-told}
 use Rattle.fast.specs.Told.{layer-of}
 use Rattle.fast.proofs.Played.{Playing, plays-first, plays-more, plays-out}
 use Rattle.fast.proofs.replay.make_all.Needs as need

@@ -1,10 +1,8 @@
-use Prim.Native.Nat.{ℕ, _+_, _*_, _-_, _≤_}
-use mathlib.Core.Path.{_≡_, refl, sym, _∙_, ap}
-use mathlib.Core.Bool.{cond}
+use Prim.Native.Nat.{_*_, _≤_}
+use mathlib.Core.Path.{refl, ap}
 use native.Mathlib.Omega.{arith}
-use lib.Dec.{ltb}
-use Rattle.std.specs.Of.Vec.{vec-items, vec-len}
-use Rattle.std.specs.declared.option.Option.the-variants.{Some, None}
+use Rattle.std.specs.Of.Vec.{vec-items}
+use Rattle.std.specs.declared.option.Option.the-variants.{None}
 use Rattle.fast.specs.Views.{numbers, entries-view}
 use Rattle.fast.specs.Rules.{live-entries, uses}
 use Rattle.fast.proofs.Rising.{all-once, map-rising}

@@ -1,4 +1,4 @@
-use mathlib.Core.Path.{_≡_, refl, ap, subst}
+use mathlib.Core.Path.{refl, ap, subst}
 use Rattle.std.specs.declared.option.Option.the-variants.{Some, None}
 use Rattle.scheme.specs.Ledger.{Reply, refused, write, wrote}
 use Rattle.fast.specs.Told.{meant, refusal-number}

@@ -1,14 +1,9 @@
-use borrow.Author.Needs.{needs}
-use mathlib.Core.Path.{_≡_, _∙_, ap, sym, subst}
-use mathlib.Core.List.{_∷_, []}
-use lib.ListN.{drop, getD}
+use mathlib.Core.Path.{_∙_, ap}
 use native.Mathlib.Omega.{arith}
 use Rattle.std.specs.Of.Vec.{vec-items}
 use Rattle.flash.specs.Calls.{erased}
-use Rattle.scheme.specs.Steps.{merged}
-use Rattle.fast.specs.Views.{numbers}
 use Rattle.fast.specs.Meaning.{view-of}
-use Rattle.fast.specs.Leaves.{at, fresh-view, Left}
+use Rattle.fast.specs.Leaves.{fresh-view}
 use Rattle.fast.proofs.Carried.{merged-front}
 use Rattle.fast.proofs.steps.merges.merge_free.Needs as need
 

@@ -1,12 +1,9 @@
-use borrow.Author.Needs.{needs}
-use mathlib.Core.Path.{_≡_, _∙_, ap, sym, subst}
+use mathlib.Core.Path.{_∙_, ap}
 use native.Mathlib.Omega.{arith}
 use Rattle.std.specs.Of.Vec.{vec-items}
-use Rattle.std.specs.declared.option.Option.the-variants.{Some, None}
 use Rattle.flash.specs.Calls.{erased}
 use Rattle.fast.specs.Meaning.{view-of}
-use Rattle.fast.specs.Rules.{owner-of, fill-of}
-use Rattle.fast.specs.Leaves.{at, fresh-view}
+use Rattle.fast.specs.Leaves.{fresh-view}
 use Rattle.fast.proofs.Carried.{merged-front-two}
 use Rattle.fast.proofs.steps.merges.merge_over.Needs as need
 

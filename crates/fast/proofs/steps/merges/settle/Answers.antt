@@ -1,11 +1,5 @@
-use borrow.Author.Needs.{needs}
-use mathlib.Core.Path.{_≡_, refl, _∙_, ap, sym, subst}
-use native.Mathlib.Omega.{arith}
-use Rattle.std.specs.Of.Vec.{vec-items}
-use Rattle.std.specs.declared.option.Option.the-variants.{Some, None}
-use Rattle.flash.specs.Calls.{erased}
+use mathlib.Core.Path.{refl, sym}
 use Rattle.fast.specs.Meaning.{view-of}
-use Rattle.fast.specs.Rules.{owner-of, fill-of}
 use Rattle.fast.specs.Leaves.{at, fresh-view}
 use Rattle.fast.proofs.Carried.{settles-owned, settles-free}
 use Rattle.fast.proofs.steps.merges.settle.Needs as need

@@ -1,6 +1,5 @@
 use Rattle.fast.specs.Meaning.{view-of}
 use Rattle.fast.specs.Views.{sequential-of}
-use Rattle.fast.specs.Leaves.{at}
 use Rattle.fast.proofs.Starts.{appends}
 use Rattle.fast.proofs.steps.writes.append_sw.Needs as need
 

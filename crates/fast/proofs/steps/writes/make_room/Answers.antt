@@ -1,20 +1,13 @@
-use Prim.Native.Nat.{ℕ, _+_, _*_, _-_, _/_, _%_, _<_, _≤_}
-use mathlib.Core.Path.{_≡_, refl, _∙_, ap, ap₂, sym, subst}
-use mathlib.Core.List.{_∷_, []}
+use Prim.Native.Nat.{_*_, _<_, _≤_}
+use mathlib.Core.Path.{refl, _∙_, ap, sym}
 use native.Mathlib.Omega.{arith}
-use native.Mathlib.Nat.{div-lt-iff-lt-mul, mul-le-mul-left}
-use lib.ListN.{length, getD}
-use Rattle.std.specs.Of.Vec.{vec-items, vec-len}
-use Rattle.flash.specs.Meaning.{holds}
-use Rattle.flash.specs.Calls.{erased}
-use Rattle.scheme.specs.Steps.{visit, thinned, append-random, open-sequential}
-use Rattle.scheme.specs.Work.{each, put-page}
-use Rattle.fast.specs.Views.{numbers, entries-view, sequential-of, sw-view}
+use lib.ListN.{length}
+use Rattle.std.specs.Of.Vec.{vec-items}
+use Rattle.fast.specs.Views.{numbers, entries-view}
 use Rattle.fast.specs.Meaning.{view-of}
-use Rattle.fast.specs.Leaves.{at, Left}
-use Rattle.fast.proofs.Counts.{getD-numbers}
+use Rattle.fast.specs.Leaves.{at}
 use Rattle.fast.proofs.Entries.{length-views}
-use Rattle.fast.proofs.Rooms.{length-numbers, reclaimed, thin-already, thin-now, room-already, room-made, appended, random-written, start-written, next-written, past-written, back-written}
+use Rattle.fast.proofs.Rooms.{length-numbers, room-already, room-made}
 use Rattle.fast.proofs.Counts.{busy-few}
 use Rattle.fast.proofs.steps.writes.make_room.Needs as need
 

@@ -1,9 +1,8 @@
-use mathlib.Core.Path.{_≡_, refl}
+use mathlib.Core.Path.{refl}
 use Prim.Native.Nat.{_<_}
 use native.Mathlib.Omega.{arith}
-use lib.ListN.{length, getD}
+use lib.ListN.{length}
 use Rattle.std.specs.Of.Vec.{vec-items}
-use Rattle.scheme.specs.Tables.{live, stale}
 use Rattle.fast.specs.declared.tables.random.Entry.the-variants.{Live, Stale}
 use Rattle.fast.specs.Views.{entries-view}
 use Rattle.fast.specs.Meaning.{view-of}

@@ -1,15 +1,12 @@
 use borrow.Author.Needs.{needs}
-use Prim.Native.Nat.{_<_, _≤_, _/_}
-use mathlib.Core.Path.{_≡_, refl, _∙_, ap, sym}
-use mathlib.Core.List.{_++_, _∷_, []}
+use Prim.Native.Nat.{_<_, _/_}
+use mathlib.Core.Path.{_≡_, refl, ap}
 use native.Mathlib.Omega.{arith}
 use lib.Dec.{eqb}
-use lib.ListN.{length, getD, drop}
+use lib.ListN.{length}
 use Rattle.std.specs.Of.Vec.{vec-items, vec-len}
-use Rattle.std.specs.declared.option.Option.the-variants.{Some, None}
-use Rattle.scheme.specs.Tables.{stale-all}
-use Rattle.fast.specs.Views.{numbers, entries-view}
-use Rattle.fast.specs.Rules.{live-entries, busy, owner-of, fill-of}
+use Rattle.fast.specs.Views.{entries-view}
+use Rattle.fast.specs.Rules.{live-entries, busy, owner-of}
 use Rattle.fast.proofs.Counts.{getD-numbers, live-stale, adopted-roles, adopted-led, adopted-view}
 use Rattle.fast.proofs.tables.Tables.adopt.Needs as need
 

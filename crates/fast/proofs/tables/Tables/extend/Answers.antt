@@ -1,21 +1,15 @@
 use borrow.Author.Needs.{needs}
-use Prim.Native.Nat.{_<_, _≤_, _/_, _*_, _+_, _-_}
-use mathlib.Core.Path.{_≡_, refl, _∙_, ap, sym}
-use mathlib.Core.List.{_++_, _∷_, []}
+use mathlib.Core.Path.{ap}
 use native.Mathlib.Omega.{arith}
-use native.Mathlib.Nat.{mul-le-mul-left}
 use lib.Dec.{eqb}
-use lib.ListN.{length, getD, drop, length-drop}
 use Rattle.std.specs.Of.Vec.{vec-items, vec-len}
-use Rattle.std.specs.declared.option.Option.the-variants.{Some, None}
-use Rattle.scheme.specs.Tables.{stale-all, live}
-use Rattle.scheme.specs.Tables as spec
-use Rattle.fast.specs.Views.{numbers, entries-view, sw-view}
-use Rattle.fast.specs.Rules.{live-entries, busy, owner-of, fill-of, same, uses, uses-sw}
+use Rattle.std.specs.declared.option.Option.the-variants.{Some}
+use Rattle.fast.specs.Views.{numbers, entries-view}
+use Rattle.fast.specs.Rules.{live-entries, busy, owner-of, same, uses, uses-sw}
 use Rattle.flash.specs.declared.numbers.Block.{Block}
 use Rattle.fast.specs.declared.numbers.LogicalBlock.{LogicalBlock}
 use Rattle.fast.specs.Meaning.{view-of}
-use Rattle.fast.proofs.Counts.{live-stale, live-drop, noted-live, moved, numbers-moved, numbers-rest}
+use Rattle.fast.proofs.Counts.{live-stale}
 use Rattle.fast.proofs.tables.Tables.extend.Needs as need
 
 pub ghost-result : need.ghost-result

@@ -1,4 +1,4 @@
-use mathlib.Core.Path.{_≡_, _∙_, ap, sym}
+use mathlib.Core.Path.{_∙_, ap, sym}
 use Rattle.scheme.specs.Place.{Place}
 use Rattle.fast.specs.Views.{sw-view}
 use Rattle.fast.specs.Meaning.{view-of}

@@ -1,19 +1,13 @@
 use borrow.Author.Needs.{needs}
-use Prim.Native.Nat.{_<_, _≤_, _/_, _*_, _+_, _-_}
-use mathlib.Core.Path.{_≡_, refl, _∙_, ap, sym}
-use mathlib.Core.List.{_++_, _∷_, []}
+use Prim.Native.Nat.{_<_, _*_, _-_}
+use mathlib.Core.Path.{_≡_, _∙_, ap}
 use native.Mathlib.Omega.{arith}
-use native.Mathlib.Nat.{mul-le-mul-left}
-use lib.Dec.{eqb}
-use lib.ListN.{length, getD, drop, length-drop}
+use lib.ListN.{length, length-drop}
 use Rattle.std.specs.Of.Vec.{vec-items, vec-len}
-use Rattle.std.specs.declared.option.Option.the-variants.{Some, None}
-use Rattle.scheme.specs.Tables.{stale-all, live}
-use Rattle.scheme.specs.Tables as spec
-use Rattle.fast.specs.Views.{numbers, entries-view, sw-view}
-use Rattle.fast.specs.Rules.{live-entries, busy, owner-of, fill-of, uses, uses-sw}
+use Rattle.fast.specs.Views.{numbers, entries-view}
+use Rattle.fast.specs.Rules.{live-entries}
 use Rattle.fast.specs.Meaning.{view-of}
-use Rattle.fast.proofs.Counts.{live-stale, live-drop, noted-live, moved, numbers-moved, numbers-rest, retired-led}
+use Rattle.fast.proofs.Counts.{live-drop, moved, numbers-moved, numbers-rest, retired-led}
 use Rattle.fast.proofs.Entries.{views-drop}
 use Rattle.fast.proofs.tables.Tables.retire.Needs as need
 

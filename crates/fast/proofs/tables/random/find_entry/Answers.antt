@@ -1,6 +1,4 @@
-use borrow.Author.Needs.{needs}
 use mathlib.Core.Path.{sym, _∙_}
-use Rattle.fast.specs.declared.tables.random.Entry.the-variants.{Live, Stale}
 use Rattle.fast.proofs.Entries.{finds, passes-live, passes-stale, ends-none}
 use Rattle.fast.proofs.tables.random.find_entry.Needs as need
 use Rattle.fast.proofs.tables.random.find_entry.Needs.{in-Live·else-n-sector, in-rest}

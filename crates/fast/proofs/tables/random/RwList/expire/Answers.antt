@@ -1,5 +1,3 @@
-use Prim.Native.Nat.{_/_}
-use lib.Dec.{eqb}
 use mathlib.Core.Path.{refl, _∙_, ap}
 use native.Mathlib.Omega.{arith}
 use Rattle.scheme.specs.Tables.{stale-all}

@@ -1,5 +1,4 @@
-use lib.Dec.{eqb}
-use mathlib.Core.Path.{_≡_, _∙_, ap}
+use mathlib.Core.Path.{_∙_, ap}
 use Rattle.std.specs.Of.Vec.{vec-items}
 use Rattle.scheme.specs.Tables.{stale-all}
 use Rattle.fast.specs.Views.{entries-view}
