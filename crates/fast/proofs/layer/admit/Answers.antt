@@ -2,7 +2,6 @@ use Prim.Native.Nat.{ℕ, _*_, _/_, _%_, _<_}
 use mathlib.Core.Path.{_≡_, _∙_, ap}
 use mathlib.Core.Bool.{Bool, true, false}
 use native.Mathlib.Omega.{arith}
-use native.Mathlib.Nat.{div-lt-iff-lt-mul}
 use lib.ListN.{length, getD}
 use Rattle.std.specs.Of.Vec.{vec-items}
 use Rattle.std.specs.declared.option.Option.the-variants.{Some}
@@ -16,6 +15,7 @@ use Rattle.fast.specs.Told.{meant}
 use Rattle.fast.specs.declared.tables.Tables.{Tables}
 use Rattle.fast.proofs.Barred.{no-sector, no-buffer, wears, no-life, no-stamp, no-bar}
 use Rattle.fast.proofs.Counts.{getD-numbers}
+use Rattle.fast.proofs.Measures.{in-block}
 use Rattle.fast.proofs.layer.admit.Needs as need
 
 pub returns-then-sector-sizes : need.returns-then-sector-sizes
@@ -29,14 +29,14 @@ returns-then-bytes-ne512 g c =
 pub index-block-requires : need.index-block-requires
 index-block-requires g c κs =
     let t = c .args .tables .now in
-    let known : c .args .sector .0 / t .sizes .pages < t .sizes .logical = div-lt-iff-lt-mul (omega (arith, t .sizes .«pages_fit»)) .1 (c .if-sector-sizes .left) in
+    let known : c .args .sector .0 / t .sizes .pages < t .sizes .logical = in-block (c .args .sector .0) (t .sizes .logical) (t .sizes .pages) (omega (arith, t .sizes .«pages_fit»)) (c .if-sector-sizes .left) in
     omega (arith, t .mapped)
 
 -- what was found of the sector's data page
 shown : (f : Flash) (t : Tables) (n : ℕ) (b : Block) (first : Bool) → n < t .sizes .logical * t .sizes .pages → b ≡ getD (vec-items (t .map)) (n / t .sizes .pages) b
     → first ≡ is-blank (seen f (b .0) (n % t .sizes .pages)) → first ≡ is-blank (seen f (view-of t .data-block (n / t .sizes .pages)) (n % t .sizes .pages))
 shown f t n b first h e found =
-    let known : n / t .sizes .pages < t .sizes .logical = div-lt-iff-lt-mul (omega (arith, t .sizes .«pages_fit»)) .1 h in
+    let known : n / t .sizes .pages < t .sizes .logical = in-block n (t .sizes .logical) (t .sizes .pages) (omega (arith, t .sizes .«pages_fit»)) h in
     let i : n / t .sizes .pages < length (vec-items (t .map)) = omega (arith, t .map .ok .0, t .mapped) in
     found ∙ ap (λ k. is-blank (seen f k (n % t .sizes .pages))) (getD-numbers (vec-items (t .map)) (n / t .sizes .pages) b i e)
 

@@ -1,7 +1,6 @@
 use Prim.Native.Nat.{_+_, _*_, _/_, _<_}
 use mathlib.Core.Path.{_∙_, ap}
 use native.Mathlib.Omega.{arith}
-use native.Mathlib.Nat.{div-lt-iff-lt-mul}
 use lib.ListN.{length}
 use Rattle.std.specs.Of.Vec.{vec-items, vec-len}
 use Rattle.scheme.specs.Place.{Place, entry-of}
@@ -9,13 +8,14 @@ use Rattle.fast.specs.Views.{entries-view}
 use Rattle.fast.specs.Meaning.{view-of}
 use Rattle.fast.proofs.Counts.{getD-numbers}
 use Rattle.fast.proofs.Places.{behind-random, behind-data}
+use Rattle.fast.proofs.Measures.{in-block}
 use Rattle.fast.proofs.tables.Tables.behind.Needs as need
 
 pub index-requires : need.index-requires
 index-requires c κs =
     let t = c .args .self .now in
     let k : c .in-Some .i < vec-len (t .rw .blocks) * t .sizes .pages = omega (arith, c .in-Some .ensures tt .within, c .deref .ensures .len, t .«entries_fit») in
-    div-lt-iff-lt-mul (omega (arith, t .sizes .«pages_fit»)) .1 k
+    in-block (c .in-Some .i) (vec-len (t .rw .blocks)) (t .sizes .pages) (omega (arith, t .sizes .«pages_fit»)) k
 
 pub returns-in-Some : need.returns-in-Some
 returns-in-Some c =
@@ -23,7 +23,7 @@ returns-in-Some c =
     let n = c .args .c .0 * t .sizes .pages + c .args .o .0 in
     let i = c .in-Some .i in
     let k : i < vec-len (t .rw .blocks) * t .sizes .pages = omega (arith, c .in-Some .ensures tt .within, c .deref .ensures .len, t .«entries_fit») in
-    let d : i / t .sizes .pages < vec-len (t .rw .blocks) = div-lt-iff-lt-mul (omega (arith, t .sizes .«pages_fit»)) .1 k in
+    let d : i / t .sizes .pages < vec-len (t .rw .blocks) = in-block i (vec-len (t .rw .blocks)) (t .sizes .pages) (omega (arith, t .sizes .«pages_fit»)) k in
     let h : i / t .sizes .pages < length (vec-items (t .rw .blocks)) = omega (arith, t .rw .blocks .ok .0) in
     let e = behind-random (t .sizes .pages) (view-of t) (c .args .c .0) (c .args .o .0) i (c .in-Some .ensures tt .entry ∙ ap (λ es. entry-of n 0 (entries-view es)) (c .deref .ensures .value)) in
     record {
