@@ -24,7 +24,7 @@ use std::alloc::Global;
 const MOST_OPERATIONS: usize = 80;
 
 impl Log {
-    pub fn new(heap: Global) -> Result<Log, AllocError>
+    pub(crate) fn new(heap: Global) -> Result<Log, AllocError>
         ensures { λ r. ⌜ made r (λ log. vec-items (log .operations) ≡ []) ⌝ }
     {
         let operations = Vec::with_capacity(heap, MOST_OPERATIONS)?;
@@ -48,7 +48,7 @@ pub struct Recorder<D: Device> {
 }
 
 impl<D: Device> Recorder<D> {
-    pub fn new(device: D, log: Log) -> Recorder<D>
+    pub(crate) fn new(device: D, log: Log) -> Recorder<D>
         ensures device { λ r. ⌜ r .device ≡ device ⌝ }
         ensures log { λ r. ⌜ r .log ≡ log ⌝ }
     {
@@ -56,7 +56,7 @@ impl<D: Device> Recorder<D> {
     }
 
     // What was written down so far.
-    pub fn operations(&self) -> &[Operation]
+    pub(crate) fn operations(&self) -> &[Operation]
         ensures { λ r. ⌜ now r ≡ vec-items (now (self .entry) .log .operations) ⌝ }
     {
         self.log.operations.as_slice()
