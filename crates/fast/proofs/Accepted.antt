@@ -1,14 +1,14 @@
 -- An accepted write, by what its parts leave.
 use Prim.Native.Nat.{ℕ, _+_, _/_, _%_}
-use mathlib.Core.Path.{_≡_, refl, ap, subst}
-use mathlib.Core.Logic.{_≢_}
 use mathlib.Core.Bool.{true, false}
 use mathlib.Core.List.{List}
+use mathlib.Core.Logic.{_≢_}
+use mathlib.Core.Path.{_≡_, refl, ap, subst}
 use native.Mathlib.Omega.{arith}
 use Rattle.std.specs.declared.option.Option.the-variants.{Some, None}
 use Rattle.std.proofs.shelf.Tests.{eq-eqb, ne-eqb}
-use Rattle.flash.specs.Meaning.{Flash, Page, blank, holds}
 use Rattle.flash.specs.Calls.{is-blank}
+use Rattle.flash.specs.Meaning.{Flash, Page, blank, holds}
 use Rattle.scheme.specs.Steps.{write-first, write-start, write-sequential, write-random, overwrite, write, stamped}
 use Rattle.scheme.specs.Tables.{Tables, Sequential, owned, with-next}
 use Rattle.scheme.specs.Work.{State, Work, put-page, seen, _then_}

@@ -1,25 +1,25 @@
 -- The steps of a loop that copies.
 use Prim.Native.Nat.{ℕ, zero, suc, _+_, _-_, _≤_}
-use mathlib.Core.Path.{_≡_, refl, sym, _∙_, ap, ap₂, subst}
-use mathlib.Core.List.{List, [], _∷_}
-use mathlib.Core.Bool.{true, false}
-use native.Mathlib.Omega.{arith}
 use lib.Dec.{eqb}
 use lib.ListN.{getD, drop}
-use Rattle.flash.specs.declared.numbers.Block.{Block}
-use Rattle.fast.specs.Views.{numbers, first-of, sw-view}
-use Rattle.std.specs.declared.option.Option.{Option}
+use mathlib.Core.Bool.{true, false}
+use mathlib.Core.List.{List, [], _∷_}
+use mathlib.Core.Path.{_≡_, refl, sym, _∙_, ap, ap₂, subst}
+use native.Mathlib.Omega.{arith}
 use Rattle.std.specs.declared.option.Option.the-variants.{Some, None}
+use Rattle.std.specs.declared.option.Option.{Option}
+use Rattle.std.proofs.shelf.Tests.{eq-eqb}
+use Rattle.flash.specs.Calls.{erased}
 use Rattle.flash.specs.Meaning.{Flash, Page, blank, holds}
+use Rattle.flash.specs.declared.numbers.Block.{Block}
 use Rattle.scheme.specs.Roles.{Event, taken-as-data, finished}
 use Rattle.scheme.specs.Steps.{Fresh, transfer, seen-of, merge, merge-free, merged, settle}
 use Rattle.scheme.specs.Tables.{Tables, owned}
 use Rattle.scheme.specs.Work.{State, Work, each, do-copy, do-program, put-page}
-use Rattle.std.proofs.shelf.Tests.{eq-eqb}
-use Rattle.fast.specs.declared.tables.sequential.Sw.{Sw}
-use Rattle.flash.specs.Calls.{erased}
 use Rattle.fast.specs.Leaves.{at, Copied, Left, fresh-view}
+use Rattle.fast.specs.Views.{numbers, first-of, sw-view}
 use Rattle.fast.specs.declared.steps.Fresh as code
+use Rattle.fast.specs.declared.tables.sequential.Sw.{Sw}
 
 copy-tables : (x : Page) (to o : ℕ) (s : State) → do-copy x to o s .after .tables ≡ s .tables
 copy-tables blank to o s = refl

@@ -3,12 +3,12 @@ use Prim.Native.Nat.{ℕ, zero, suc, _+_, _/_, _<_, _≤_}
 use lib.Dec.{eqb, ltb}
 use lib.ListN.{getD, length, set, drop}
 use mathlib.Core.Bool.{Bool, true, false, cond}
-use mathlib.Core.Logic.{_≢_, inl, inr}
 use mathlib.Core.List.{List, [], _∷_, _++_, append-assoc}
+use mathlib.Core.Logic.{_≢_, inl, inr}
 use mathlib.Core.Path.{_≡_, refl, sym, _∙_, ap, ap₂, fun-ext}
 use native.Mathlib.Omega.{arith}
-use Rattle.std.specs.declared.option.Option.{Option}
 use Rattle.std.specs.declared.option.Option.the-variants.{Some, None}
+use Rattle.std.specs.declared.option.Option.{Option}
 use Rattle.std.proofs.shelf.Tests.{cases-bool, cases-eq, eq-eqb, ne-eqb, lt-ltb}
 use Rattle.flash.specs.declared.numbers.Block.{Block}
 use Rattle.scheme.specs.Functions.{upd}
@@ -16,11 +16,11 @@ use Rattle.scheme.specs.Roles.{Led, after, taken-as-data, taken-as-sequential, 
 use Rattle.scheme.specs.Steps.{merged, turn}
 use Rattle.scheme.specs.Tables.{Entry, live, stale, stale-all, Sequential, owned, released}
 use Rattle.scheme.proofs.Updates.{upd-both}
-use Rattle.fast.specs.declared.tables.sequential.Sw.{Sw}
-use Rattle.fast.specs.declared.tables.random.Entry as code
-use Rattle.fast.specs.Views.{numbers, view, sw-view, entries-view}
-use Rattle.fast.proofs.Leads.{role-by, role-counted, uses-at, leads-one, leads-two, leads-three}
 use Rattle.fast.specs.Rules.{same, uses, uses-sw, busy, live-entries, One-role, One-live}
+use Rattle.fast.specs.Views.{numbers, view, sw-view, entries-view}
+use Rattle.fast.specs.declared.tables.random.Entry as code
+use Rattle.fast.specs.declared.tables.sequential.Sw.{Sw}
+use Rattle.fast.proofs.Leads.{role-by, role-counted, uses-at, leads-one, leads-two, leads-three}
 
 pub uses-set : (b : ℕ) (xs : List Block) (i : ℕ) (x : Block) → i < length xs → uses b (set xs i x) + same b (getD (numbers xs) i 0) ≡ uses b xs + same b (x .0)
 uses-set b [] i x h = absurd (omega arith)

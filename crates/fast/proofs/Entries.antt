@@ -1,24 +1,24 @@
 -- The code's entries and the steps'.
 use Prim.Native.Nat.{ℕ, zero, suc, _+_, _-_, _*_, _/_, _%_, _≤_, _<_}
-use mathlib.Core.Path.{_≡_, refl, sym, _∙_, ap, ap₂, subst, fun-ext}
-use mathlib.Core.Logic.{inl, inr, _≢_}
-use mathlib.Core.Bool.{Bool}
-use mathlib.Core.List.{List, [], _∷_, _++_, map}
-use native.Mathlib.Omega.{arith}
-use native.Mathlib.Nat.{div-add-mod', mod-lt, mul-le-mul-right}
-use native.Mathlib.Numerals.{add-one}
 use lib.Dec.{eqb}
 use lib.ListN.{length, take, drop, getD, length-drop}
 use lib.Seq.{drop-cons, take-append-le}
+use mathlib.Core.Bool.{Bool}
+use mathlib.Core.List.{List, [], _∷_, _++_, map}
+use mathlib.Core.Logic.{inl, inr, _≢_}
+use mathlib.Core.Path.{_≡_, refl, sym, _∙_, ap, ap₂, subst, fun-ext}
+use native.Mathlib.Nat.{div-add-mod', mod-lt, mul-le-mul-right}
+use native.Mathlib.Numerals.{add-one}
+use native.Mathlib.Omega.{arith}
 use Rattle.std.specs.declared.option.Option.the-variants.{Some, None}
 use Rattle.std.proofs.shelf.Lists.{take-all, drop-all, append-nil}
 use Rattle.std.proofs.shelf.Tests.{cases-bool, cases-eq, cases-lt, eq-eqb, ne-eqb, lt-ltb, le-ltb, lt-leb, le-leb}
+use Rattle.flash.specs.declared.numbers.Sector.{Sector}
 use Rattle.scheme.specs.Place.{entry-of}
 use Rattle.scheme.specs.Tables.{stale-if, stale-all}
-use Rattle.flash.specs.declared.numbers.Sector.{Sector}
-use Rattle.fast.specs.declared.tables.random.Entry.{Entry}
-use Rattle.fast.specs.declared.tables.random.Entry.the-variants.{Live, Stale}
 use Rattle.fast.specs.Views.{entry-view, entries-view, expired-entry, in-run}
+use Rattle.fast.specs.declared.tables.random.Entry.the-variants.{Live, Stale}
+use Rattle.fast.specs.declared.tables.random.Entry.{Entry}
 
 views-map : (f : Entry → Entry) (q : ℕ → Bool) → ((e : Entry) → entry-view (f e) ≡ stale-if q (entry-view e)) → (es : List Entry) → entries-view (map f es) ≡ stale-all q (entries-view es)
 views-map f q h [] = refl

@@ -1,10 +1,10 @@
 -- The loop that erases every block.
 use Prim.Native.Nat.{ℕ, _+_}
 use mathlib.Core.Path.{_≡_, refl, sym, _∙_, ap}
-use native.Mathlib.Numerals.{add-one}
 use native.Mathlib.Nat.{zero-add}
-use Rattle.flash.specs.Meaning.{Flash}
+use native.Mathlib.Numerals.{add-one}
 use Rattle.flash.specs.Calls.{erased}
+use Rattle.flash.specs.Meaning.{Flash}
 use Rattle.scheme.specs.Tables.{Tables}
 use Rattle.scheme.specs.Work.{State, each, do-erase}
 use Rattle.fast.specs.Leaves.{at}

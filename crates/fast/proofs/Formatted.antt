@@ -1,10 +1,10 @@
 -- The fit check and format, check by check.
 use Prim.Native.Nat.{ℕ, _+_, _<_, _≤_}
-use mathlib.Core.Path.{_≡_, refl, sym, _∙_, ap, fun-ext}
-use mathlib.Core.Logic.{inl, inr}
-use mathlib.Core.Bool.{true, false}
-use native.Mathlib.Omega.{arith}
 use lib.Dec.{ltb, leb}
+use mathlib.Core.Bool.{true, false}
+use mathlib.Core.Logic.{inl, inr}
+use mathlib.Core.Path.{_≡_, refl, sym, _∙_, ap, fun-ext}
+use native.Mathlib.Omega.{arith}
 use Rattle.std.specs.declared.option.Option.the-variants.{Some, None}
 use Rattle.std.proofs.shelf.Tests.{cases-lt, lt-ltb, le-ltb, le-leb, lt-leb}
 use Rattle.flash.specs.Meaning.{Flash}

@@ -1,8 +1,8 @@
 -- Where a sector is read, by what the code finds.
 use Prim.Native.Nat.{ℕ, _+_, _*_}
-use mathlib.Core.Path.{_≡_, refl, sym}
-use mathlib.Core.Bool.{true, false, _&&_}
 use lib.Dec.{eqb, ltb}
+use mathlib.Core.Bool.{true, false, _&&_}
+use mathlib.Core.Path.{_≡_, refl, sym}
 use Rattle.std.specs.declared.option.Option.the-variants.{Some, None}
 use Rattle.scheme.specs.Place.{place, behind, entry-of, entry-place}
 use Rattle.scheme.specs.Tables.{Tables, Sequential}

@@ -3,15 +3,15 @@ use Prim.Native.Nat.{ℕ, zero, suc, _+_, _-_, _<_, _≤_}
 use lib.Dec.{ltb}
 use lib.ListN.{getD}
 use mathlib.Core.Bool.{cond}
-use mathlib.Core.Logic.{_≢_, inl, inr}
 use mathlib.Core.List.{List, [], _∷_, _++_}
+use mathlib.Core.Logic.{_≢_, inl, inr}
 use mathlib.Core.Path.{_≡_, refl, sym, _∙_, ap, ap₂, fun-ext}
 use native.Mathlib.Omega.{arith}
 use Rattle.std.proofs.shelf.Tests.{cases-lt, cases-eq, eq-eqb, ne-eqb, lt-ltb, le-ltb}
 use Rattle.flash.specs.declared.numbers.Block.{Block}
 use Rattle.scheme.specs.Steps.{rising}
-use Rattle.fast.specs.Views.{numbers}
 use Rattle.fast.specs.Rules.{same, uses}
+use Rattle.fast.specs.Views.{numbers}
 use Rattle.fast.proofs.Counts.{numbers-push}
 
 rising-snoc : (a n : ℕ) → rising a (suc n) ≡ rising a n ++ ((a + n) ∷ [])

@@ -1,21 +1,21 @@
 -- The steps of overwrites, by what their parts leave.
 use Prim.Native.Nat.{ℕ, suc, _+_, _*_, _/_, _%_, _<_, _≤_}
-use mathlib.Core.Path.{_≡_, refl, sym, ap, ap₂, subst, subst₂}
-use mathlib.Core.Logic.{_≢_}
-use mathlib.Core.List.{List, [], _∷_, _++_}
-use native.Mathlib.Omega.{arith}
 use lib.Dec.{eqb}
 use lib.ListN.{length, getD, drop}
+use mathlib.Core.List.{List, [], _∷_, _++_}
+use mathlib.Core.Logic.{_≢_}
+use mathlib.Core.Path.{_≡_, refl, sym, ap, ap₂, subst, subst₂}
+use native.Mathlib.Omega.{arith}
 use Rattle.std.specs.declared.option.Option.the-variants.{Some}
 use Rattle.std.proofs.shelf.Tests.{eq-eqb, ne-eqb, lt-ltb, le-ltb}
-use Rattle.flash.specs.Meaning.{Flash, Page}
 use Rattle.flash.specs.Calls.{erased}
+use Rattle.flash.specs.Meaning.{Flash, Page}
 use Rattle.flash.specs.declared.numbers.Block.{Block}
 use Rattle.scheme.specs.Steps.{visit, retire, reclaim, thinned, take-log, make-room, append-random, write-random, settle-owner, open-sequential, write-start, append-sequential, settle, merge-free, write-sequential}
 use Rattle.scheme.specs.Tables.{Tables, Sequential, live, with-random, with-free, stale-all}
 use Rattle.scheme.specs.Work.{State, Work, each, put-page, _then_}
-use Rattle.fast.specs.Views.{numbers}
 use Rattle.fast.specs.Leaves.{at, Left}
+use Rattle.fast.specs.Views.{numbers}
 use Rattle.fast.proofs.Visited.{left-then}
 
 pub length-numbers : (xs : List Block) → length (numbers xs) ≡ length xs

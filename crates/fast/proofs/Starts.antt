@@ -1,18 +1,18 @@
 -- The steps of overwrites into the sequential log block, by what their parts leave.
 use Prim.Native.Nat.{ℕ, _+_}
-use mathlib.Core.Path.{_≡_, refl, sym, ap₂, subst}
-use mathlib.Core.List.{[], _∷_}
 use lib.Dec.{eqb}
-use Rattle.std.specs.declared.option.Option.{Option}
+use mathlib.Core.List.{[], _∷_}
+use mathlib.Core.Path.{_≡_, refl, sym, ap₂, subst}
 use Rattle.std.specs.declared.option.Option.the-variants.{Some, None}
+use Rattle.std.specs.declared.option.Option.{Option}
 use Rattle.flash.specs.Meaning.{Flash, Page}
 use Rattle.scheme.specs.Roles.{finished}
 use Rattle.scheme.specs.Steps.{merge, settle-owner, append-sequential}
 use Rattle.scheme.specs.Tables.{Tables, Sequential, with-sequential, with-random, stale-all}
 use Rattle.scheme.specs.Work.{State, put-page}
-use Rattle.fast.specs.declared.tables.sequential.Sw.{Sw}
-use Rattle.fast.specs.Views.{sw-view}
 use Rattle.fast.specs.Leaves.{at, Left}
+use Rattle.fast.specs.Views.{sw-view}
+use Rattle.fast.specs.declared.tables.sequential.Sw.{Sw}
 use Rattle.fast.proofs.Carried.{settles-owned}
 
 pub settles-owner : (P : ℕ) (s : State) (q : Option Sw) (k : Sw) (f : Flash) (u : Tables) (e n : ℕ) → s .tables .sequential ≡ sw-view q → q ≡ Some k

@@ -1,18 +1,18 @@
 -- A call of the layer, by what its parts found.
 use Prim.Native.Nat.{ℕ, _<_, _≤_}
-use mathlib.Core.Path.{_≡_, refl, sym, _∙_, ap, ap₂, subst₂}
-use mathlib.Core.Logic.{_≢_}
-use mathlib.Core.List.{List, []}
-use native.Mathlib.Omega.{arith}
 use lib.ListN.{length}
+use mathlib.Core.List.{List, []}
+use mathlib.Core.Logic.{_≢_}
+use mathlib.Core.Path.{_≡_, refl, sym, _∙_, ap, ap₂, subst₂}
+use native.Mathlib.Omega.{arith}
 use Rattle.std.specs.declared.option.Option.the-variants.{Some, None}
 use Rattle.std.proofs.shelf.Tests.{le-ltb, lt-ltb, eq-eqb, ne-eqb}
 use Rattle.flash.specs.Meaning.{Flash}
-use Rattle.scheme.proofs.Runs.{every-run-is-lawful, every-call-is-lawful}
 use Rattle.scheme.specs.Law.{Begun, Lawful}
 use Rattle.scheme.specs.Ledger.{Call, Reply, refused, wrote, write, read, reads, shown}
 use Rattle.scheme.specs.Runs.{Start, Layer, Outcome, format, sectors, unchanged, call, write-refusal, content}
 use Rattle.scheme.specs.Steps.{write as write-steps}
+use Rattle.scheme.proofs.Runs.{every-run-is-lawful, every-call-is-lawful}
 use Rattle.fast.specs.Leaves.{at, Left}
 use Rattle.fast.specs.Meaning.{view-of}
 use Rattle.fast.specs.Told.{meant}

@@ -1,25 +1,25 @@
 -- The visit of an entry, and the loop over the victim's entries.
 use Prim.Native.Nat.{ℕ, zero, suc, _+_, _*_, _/_, _<_, _≤_}
-use mathlib.Core.Path.{_≡_, refl, sym, _∙_, ap, ap₂, subst}
-use mathlib.Core.Logic.{inl, inr}
-use mathlib.Core.Bool.{cond}
-use mathlib.Core.List.{List, [], _∷_}
-use native.Mathlib.Omega.{arith}
-use native.Mathlib.Nat.{div-lt-iff-lt-mul}
-use native.Mathlib.Numerals.{add-one}
 use lib.Dec.{ltb}
 use lib.ListN.{length, getD}
+use mathlib.Core.Bool.{cond}
+use mathlib.Core.List.{List, [], _∷_}
+use mathlib.Core.Logic.{inl, inr}
+use mathlib.Core.Path.{_≡_, refl, sym, _∙_, ap, ap₂, subst}
+use native.Mathlib.Nat.{div-lt-iff-lt-mul}
+use native.Mathlib.Numerals.{add-one}
+use native.Mathlib.Omega.{arith}
 use Rattle.std.specs.declared.option.Option.the-variants.{None}
 use Rattle.std.proofs.shelf.Tests.{cases-bool, eq-eqb, ltb-true}
 use Rattle.flash.specs.Meaning.{Flash}
 use Rattle.scheme.specs.Steps.{visit, settle}
+use Rattle.scheme.specs.Tables as spec
 use Rattle.scheme.specs.Tables.{Tables, live, stale}
 use Rattle.scheme.specs.Work.{State, Work, each, _then_}
-use Rattle.scheme.specs.Tables as spec
-use Rattle.fast.specs.declared.tables.random.Entry.{Entry}
-use Rattle.fast.specs.Views.{entry-view, entries-view}
-use Rattle.fast.specs.Rules.{same, live-entries, One-live}
 use Rattle.fast.specs.Leaves.{at, Left}
+use Rattle.fast.specs.Rules.{same, live-entries, One-live}
+use Rattle.fast.specs.Views.{entry-view, entries-view}
+use Rattle.fast.specs.declared.tables.random.Entry.{Entry}
 
 pub view-at : (es : List Entry) (i : ℕ) (x y : Entry) → i < length es → x ≡ getD es i x → x ≡ y → getD (entries-view es) i stale ≡ entry-view y
 view-at es i x y h e z = go es i h e ∙ ap entry-view z

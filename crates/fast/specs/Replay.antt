@@ -4,8 +4,8 @@ use Rattle.std.specs.Of.Vec.{vec-items}
 use Rattle.scheme.specs.Ledger as ledger
 use Rattle.fast.specs.Told.{read-told, write-told}
 use Rattle.fast.specs.declared.replay.Answer.the-variants as answers
-use Rattle.fast.specs.declared.replay.Call.{Call}
 use Rattle.fast.specs.declared.replay.Call.the-variants.{Read, Write}
+use Rattle.fast.specs.declared.replay.Call.{Call}
 use Rattle.fast.specs.declared.replay.Reply.{Reply}
 
 abbrev pub call-told : Call → ledger.Call

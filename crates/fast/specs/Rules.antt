@@ -4,8 +4,8 @@ use lib.Dec.{eqb, ltb}
 use mathlib.Core.Bool.{cond}
 use mathlib.Core.List.{List, [], _∷_}
 use mathlib.Core.Path.{_≡_}
-use Rattle.std.specs.declared.option.Option.{Option}
 use Rattle.std.specs.declared.option.Option.the-variants.{Some, None}
+use Rattle.std.specs.declared.option.Option.{Option}
 use Rattle.flash.specs.declared.numbers.Block.{Block}
 use Rattle.scheme.specs.Tables.{Entry, live, stale}
 use Rattle.fast.specs.declared.tables.sequential.Sw.{Sw}

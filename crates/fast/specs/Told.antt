@@ -3,23 +3,23 @@ use Prim.Native.Nat.{ℕ}
 use lib.Dec.{ltb}
 use mathlib.Core.Bool.{Bool, cond}
 use mathlib.Core.List.{List}
-use Rattle.std.specs.declared.option.Option.{Option}
 use Rattle.std.specs.declared.option.Option.the-variants.{Some, None}
-use Rattle.std.specs.declared.result.Result.{Result}
+use Rattle.std.specs.declared.option.Option.{Option}
 use Rattle.std.specs.declared.result.Result.the-variants.{Ok, Err}
+use Rattle.std.specs.declared.result.Result.{Result}
 use Rattle.flash.specs.Meaning.{Flash}
 use Rattle.scheme.specs.Ledger as ledger
 use Rattle.scheme.specs.Roles.{Role, role-of}
 use Rattle.scheme.specs.Runs as runs
 use Rattle.fast.specs.Leaves.{at}
 use Rattle.fast.specs.Meaning.{view-of}
-use Rattle.fast.specs.declared.fit.Unfit.{Unfit}
 use Rattle.fast.specs.declared.fit.Unfit.the-variants.{OutOfRange, WornOut}
-use Rattle.fast.specs.declared.layer.Found.{Found}
+use Rattle.fast.specs.declared.fit.Unfit.{Unfit}
 use Rattle.fast.specs.declared.layer.Found.the-variants.{Bytes, NeverWritten}
+use Rattle.fast.specs.declared.layer.Found.{Found}
 use Rattle.fast.specs.declared.layer.Layer.{Layer}
-use Rattle.fast.specs.declared.refusal.Refusal.{Refusal}
 use Rattle.fast.specs.declared.refusal.Refusal.the-variants.{NoSuchSector, BufferNotASector, BlocksWornOut, StampsUsedUp}
+use Rattle.fast.specs.declared.refusal.Refusal.{Refusal}
 use Rattle.fast.specs.declared.tables.Tables.{Tables}
 
 -- a device with tables, or with none

@@ -4,12 +4,12 @@ use lib.Dec.{leb, ltb}
 use lib.ListN.{getD}
 use mathlib.Core.Bool.{Bool, cond, _&&_}
 use mathlib.Core.List.{List, [], _∷_, map}
-use Rattle.std.specs.declared.option.Option.{Option}
 use Rattle.std.specs.declared.option.Option.the-variants.{Some, None}
+use Rattle.std.specs.declared.option.Option.{Option}
 use Rattle.flash.specs.declared.numbers.Block.{Block}
 use Rattle.scheme.specs.Tables as scheme
-use Rattle.fast.specs.declared.tables.random.Entry.{Entry}
 use Rattle.fast.specs.declared.tables.random.Entry.the-variants.{Live, Stale}
+use Rattle.fast.specs.declared.tables.random.Entry.{Entry}
 use Rattle.fast.specs.declared.tables.sequential.Sw.{Sw}
 
 -- the numbers of a list of blocks

@@ -1,25 +1,25 @@
 -- An accepted write as a whole.
 use Prim.Native.Nat.{ℕ, _+_, _*_, _/_, _%_, _<_, _≤_, min}
-use mathlib.Core.Path.{_≡_, refl, sym, _∙_, ap, subst}
+use lib.ListN.{length}
 use mathlib.Core.Bool.{true, false, cond}
 use mathlib.Core.List.{List, []}
-use native.Mathlib.Omega.{arith}
+use mathlib.Core.Path.{_≡_, refl, sym, _∙_, ap, subst}
 use native.Mathlib.Nat.{div-lt-iff-lt-mul, div-add-mod', mod-lt}
+use native.Mathlib.Omega.{arith}
 use Rattle.std.specs.Options.{isSome}
-use Rattle.std.specs.declared.option.Option.{Option}
 use Rattle.std.specs.declared.option.Option.the-variants.{Some}
+use Rattle.std.specs.declared.option.Option.{Option}
 use Rattle.flash.specs.Meaning.{Page, blank, holds}
 use Rattle.scheme.specs.Functions.{upd}
 use Rattle.scheme.specs.Place.{place}
 use Rattle.scheme.specs.Steps.{write, write-first, overwrite, stamped}
 use Rattle.scheme.specs.Tables.{Tables}
 use Rattle.scheme.specs.Work.{line, State, Work, seen, _then_}
-use lib.ListN.{length}
-use Rattle.scheme.proofs.Roles.{data-of, inside}
-use Rattle.scheme.proofs.Plain.{sees}
-use Rattle.scheme.proofs.Works.{does-then, does-to, does-table}
 use Rattle.scheme.proofs.Held.{Inv}
 use Rattle.scheme.proofs.Overwrites.{Wrote, writes-first, overwrites}
+use Rattle.scheme.proofs.Plain.{sees}
+use Rattle.scheme.proofs.Roles.{data-of, inside}
+use Rattle.scheme.proofs.Works.{does-then, does-to, does-table}
 
 -- the tables with another next stamp
 abbrev pub restamped : Tables → ℕ → Tables

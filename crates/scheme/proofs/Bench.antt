@@ -1,15 +1,15 @@
 -- The worked run, by computation.
-use mathlib.Core.Path.{_≡_, refl}
-use mathlib.Core.List.{[], _∷_, _++_}
 use lib.ListN.{replicate}
-use Rattle.scheme.specs.Functions.{upd}
-use Rattle.scheme.specs.Place.{place}
-use Rattle.scheme.specs.Work.{each}
-use Rattle.scheme.specs.Steps.{merge, settle, write-first, write-start, append-sequential, write-sequential, reclaim, make-room, append-random, write-random, overwrite, write, formatted}
-use Rattle.scheme.specs.Ledger.{read, never-written, bytes, wrote, refused}
-use Rattle.scheme.specs.Ledger as ledger
-use Rattle.scheme.specs.Runs.{fit, format, call, write-refusal, replies}
+use mathlib.Core.List.{[], _∷_, _++_}
+use mathlib.Core.Path.{_≡_, refl}
 use Rattle.scheme.specs.Bench.{Twelve-answers, bench, writes, answers, in-order}
+use Rattle.scheme.specs.Functions.{upd}
+use Rattle.scheme.specs.Ledger as ledger
+use Rattle.scheme.specs.Ledger.{read, never-written, bytes, wrote, refused}
+use Rattle.scheme.specs.Place.{place}
+use Rattle.scheme.specs.Runs.{fit, format, call, write-refusal, replies}
+use Rattle.scheme.specs.Steps.{merge, settle, write-first, write-start, append-sequential, write-sequential, reclaim, make-room, append-random, write-random, overwrite, write, formatted}
+use Rattle.scheme.specs.Work.{each}
 
 pub twelve-answers : Twelve-answers
 unfolding upd place each merge settle write-first write-start append-sequential write-sequential reclaim make-room append-random write-random overwrite write formatted fit format call write-refusal

@@ -1,22 +1,22 @@
 -- How changes lead the roles of blocks: one list of changes after another, and the changes that the steps make.
 use Prim.Native.Nat.{ℕ, _<_}
-use mathlib.Core.Path.{_≡_, refl, sym, _∙_, ap}
-use mathlib.Core.Logic.{_≢_, inl, inr}
-use mathlib.Core.List.{List, [], _∷_, _++_, map}
-use native.Mathlib.Omega.{arith}
 use lib.Dec.{eqb}
-use Rattle.std.specs.declared.option.Option.{Option}
+use mathlib.Core.List.{List, [], _∷_, _++_, map}
+use mathlib.Core.Logic.{_≢_, inl, inr}
+use mathlib.Core.Path.{_≡_, refl, sym, _∙_, ap}
+use native.Mathlib.Omega.{arith}
 use Rattle.std.specs.declared.option.Option.the-variants.{Some, None}
+use Rattle.std.specs.declared.option.Option.{Option}
 use Rattle.std.specs.shelf.Lists.{All}
 use Rattle.std.proofs.shelf.Tests.{cases-bool, cases-eq, eq-eqb, ne-eqb}
 use Rattle.scheme.specs.Functions.{upd}
+use Rattle.scheme.specs.Roles as spec
 use Rattle.scheme.specs.Roles.{led, Event, Change, and-then, Led, role-of, times, times-sequential, after}
 use Rattle.scheme.specs.Steps.{turn}
 use Rattle.scheme.specs.Tables.{Tables}
-use Rattle.scheme.specs.Roles as spec
-use Rattle.scheme.proofs.Updates.{upd-same, upd-other}
-use Rattle.scheme.proofs.Roles.{Use, free, data-of, sequential, random, outside, kind, Roles}
 use Rattle.scheme.proofs.Partition.{tables-right, no-data, no-sequential, no-logs, no-free}
+use Rattle.scheme.proofs.Roles.{Use, free, data-of, sequential, random, outside, kind, Roles}
+use Rattle.scheme.proofs.Updates.{upd-same, upd-other}
 
 and-then-some : (o : Option spec.Role) (f g : spec.Role → Option spec.Role) (q p : spec.Role) → ((r : spec.Role) → f r ≡ Some q → g r ≡ Some p) → and-then o f ≡ Some q → and-then o g ≡ Some p
 and-then-some None f g q p h e = let z : _≡_ {A = ℕ} 0 1 = cc in absurd (omega arith)

@@ -1,16 +1,16 @@
 -- The entries of the random log blocks: where a sector's live entry stands after entries were made stale, added or dropped.
 use Prim.Native.Nat.{ℕ, zero, suc, _+_, _<_, _≤_}
-use mathlib.Core.Path.{_≡_, refl, sym, _∙_, ap}
-use mathlib.Core.Logic.{_≢_, _⊎_, inl, inr}
-use mathlib.Core.Bool.{Bool, false, cond}
-use mathlib.Core.List.{List, [], _∷_, _++_}
-use native.Mathlib.Omega.{arith}
-use native.Mathlib.Nat.{add-suc, suc-add, add-zero}
 use lib.Dec.{eqb}
 use lib.ListN.{length, getD, drop, List·getD-map}
-use Rattle.std.proofs.shelf.Lists.{getD-drop}
-use Rattle.std.specs.declared.option.Option.{Option}
+use mathlib.Core.Bool.{Bool, false, cond}
+use mathlib.Core.List.{List, [], _∷_, _++_}
+use mathlib.Core.Logic.{_≢_, _⊎_, inl, inr}
+use mathlib.Core.Path.{_≡_, refl, sym, _∙_, ap}
+use native.Mathlib.Nat.{add-suc, suc-add, add-zero}
+use native.Mathlib.Omega.{arith}
 use Rattle.std.specs.declared.option.Option.the-variants.{Some, None}
+use Rattle.std.specs.declared.option.Option.{Option}
+use Rattle.std.proofs.shelf.Lists.{getD-drop}
 use Rattle.std.proofs.shelf.Tests.{cond-both, cases-eq, cases-bool, eq-eqb, ne-eqb, eqb-false}
 use Rattle.scheme.specs.Place.{entry-of}
 use Rattle.scheme.specs.Tables.{Entry, live, stale, stale-if, stale-all}

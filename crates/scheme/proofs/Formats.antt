@@ -1,27 +1,27 @@
 -- What format leaves.
 use Prim.Native.Nat.{ℕ, zero, suc, _+_, _-_, _<_, _≤_}
-use mathlib.Core.Path.{_≡_, refl, sym, _∙_, ap, subst}
-use mathlib.Core.Logic.{_≢_}
-use mathlib.Core.Bool.{cond}
-use mathlib.Core.List.{[]}
-use native.Mathlib.Omega.{arith}
-use native.Mathlib.Nat.{zero-add}
 use lib.Dec.{ltb}
 use lib.ListN.{length}
+use mathlib.Core.Bool.{cond}
+use mathlib.Core.List.{[]}
+use mathlib.Core.Logic.{_≢_}
+use mathlib.Core.Path.{_≡_, refl, sym, _∙_, ap, subst}
+use native.Mathlib.Nat.{zero-add}
+use native.Mathlib.Omega.{arith}
 use Rattle.std.specs.Options.{isSome}
 use Rattle.std.specs.declared.option.Option.the-variants.{None}
 use Rattle.std.specs.shelf.Lists.{All}
 use Rattle.std.proofs.shelf.Tests.{lt-ltb, le-ltb}
+use Rattle.flash.specs.Calls as calls
 use Rattle.flash.specs.Meaning.{Flash, blank}
 use Rattle.scheme.specs.Place.{place}
 use Rattle.scheme.specs.Steps.{formatted, rising}
 use Rattle.scheme.specs.Tables.{Tables}
 use Rattle.scheme.specs.Work.{each, line, State, do-erase}
-use Rattle.scheme.proofs.Plain.{erased, erases}
-use Rattle.flash.specs.Calls as calls
-use Rattle.scheme.proofs.Updates.{upd-other, upd-both, Apart}
-use Rattle.scheme.proofs.Roles.{Use, free, data-of, outside}
 use Rattle.scheme.proofs.Held.{Inv}
+use Rattle.scheme.proofs.Plain.{erased, erases}
+use Rattle.scheme.proofs.Roles.{Use, free, data-of, outside}
+use Rattle.scheme.proofs.Updates.{upd-other, upd-both, Apart}
 
 -- the blocks below n are blank and have one erase more, and all else is as it was
 pub record Cleaned (s w : State) (n : ℕ) : Type 0 where

@@ -1,34 +1,34 @@
 -- What the pages hold: each sector's place has its ledger line, and what is to be programmed next is blank.
 use Prim.Native.Nat.{ℕ, _+_, _*_, _/_, _-_, _<_, _≤_}
-use mathlib.Core.Path.{_≡_, refl, sym, _∙_, ap}
-use mathlib.Core.Logic.{_≢_, inl, inr}
-use mathlib.Core.Bool.{true}
-use mathlib.Core.List.{List, [], _∷_, map}
-use native.Mathlib.Omega.{arith}
 use lib.Arith.{digits-div}
 use lib.Dec.{eqb}
 use lib.ListN.{length, getD}
+use mathlib.Core.Bool.{true}
+use mathlib.Core.List.{List, [], _∷_, map}
+use mathlib.Core.Logic.{_≢_, inl, inr}
+use mathlib.Core.Path.{_≡_, refl, sym, _∙_, ap}
+use native.Mathlib.Omega.{arith}
 use Rattle.std.specs.Options.{isSome}
-use Rattle.std.specs.declared.option.Option.{Option}
 use Rattle.std.specs.declared.option.Option.the-variants.{Some, None}
+use Rattle.std.specs.declared.option.Option.{Option}
 use Rattle.std.specs.shelf.Lists.{All}
-use Rattle.std.proofs.shelf.Lists.{length-map}
 use Rattle.std.proofs.shelf.Elements.{all-append, all-weaker, all-getD}
+use Rattle.std.proofs.shelf.Lists.{length-map}
 use Rattle.std.proofs.shelf.Tests.{cond-both, cases-eq, eq-eqb, ne-eqb, eqb-false}
 use Rattle.flash.specs.Meaning.{Flash, Page, blank}
 use Rattle.scheme.specs.Functions.{upd}
 use Rattle.scheme.specs.Place.{Place, place, entry-of}
+use Rattle.scheme.specs.Roles as spec
 use Rattle.scheme.specs.Roles.{Event, Change}
 use Rattle.scheme.specs.Steps.{merged, page-of, merge, Fresh, transfer, turn}
 use Rattle.scheme.specs.Tables.{Sequential, stale-all}
 use Rattle.scheme.specs.Work.{each, line, State, erase-all, _then_, retable}
-use Rattle.scheme.proofs.Plain.{with-pages, erased}
-use Rattle.scheme.proofs.Updates.{upd-same, upd-other, upd-both}
-use Rattle.scheme.proofs.Entries.{entry-stale}
-use Rattle.scheme.proofs.Roles.{Use, free, data-of, sequential, random, Roles, data-same, unlike, place-busy, place-apart, place-inside, place-page}
-use Rattle.scheme.specs.Roles as spec
 use Rattle.scheme.proofs.Changes.{role-told}
+use Rattle.scheme.proofs.Entries.{entry-stale}
 use Rattle.scheme.proofs.Merges.{merged-led, Merge, released-is, released-own, released-other, ρ′, merged-to, merged-roles, marked-free, to-inside, dead-inside}
+use Rattle.scheme.proofs.Plain.{with-pages, erased}
+use Rattle.scheme.proofs.Roles.{Use, free, data-of, sequential, random, Roles, data-same, unlike, place-busy, place-apart, place-inside, place-page}
+use Rattle.scheme.proofs.Updates.{upd-same, upd-other, upd-both}
 use Rattle.scheme.proofs.Works.{Does, does-then, does-to, does-idle, does-table, erase-does, paged, row, source, Fresh-marked, copies-does}
 
 pub record Held (P L : ℕ) (l : ℕ → Option (List ℕ)) (s : State) : Type 0 where

@@ -1,28 +1,28 @@
 -- A merge of a logical block: the roles that it leaves.
 use Prim.Native.Nat.{ℕ, _+_, _/_, _<_}
-use mathlib.Core.Path.{_≡_, refl, sym, _∙_, ap, subst}
-use mathlib.Core.Logic.{_≢_, inl, inr}
-use mathlib.Core.List.{List, [], _∷_, _++_, map}
-use native.Mathlib.Omega.{arith}
 use lib.Dec.{eqb}
 use lib.ListN.{length}
-use Rattle.std.specs.declared.option.Option.{Option}
+use mathlib.Core.List.{List, [], _∷_, _++_, map}
+use mathlib.Core.Logic.{_≢_, inl, inr}
+use mathlib.Core.Path.{_≡_, refl, sym, _∙_, ap, subst}
+use native.Mathlib.Omega.{arith}
 use Rattle.std.specs.declared.option.Option.the-variants.{Some, None}
+use Rattle.std.specs.declared.option.Option.{Option}
 use Rattle.std.specs.shelf.Lists.{All}
-use Rattle.std.proofs.shelf.Lists.{length-map, length-append}
 use Rattle.std.proofs.shelf.Elements.{all-append, all-weaker}
+use Rattle.std.proofs.shelf.Lists.{length-map, length-append}
 use Rattle.std.proofs.shelf.Tests.{cond-both, cases-eq, cases-lt, cases-bool, ne-eqb, eqb-true, eqb-false}
 use Rattle.scheme.specs.Functions.{upd}
 use Rattle.scheme.specs.Place.{entry-of, sequential-place}
+use Rattle.scheme.specs.Roles as spec
 use Rattle.scheme.specs.Roles.{led, Event, Led, after}
 use Rattle.scheme.specs.Steps.{merged, turn}
 use Rattle.scheme.specs.Tables.{Tables, Sequential, stale-all, released}
-use Rattle.scheme.proofs.Plain.{erased}
-use Rattle.scheme.proofs.Updates.{upd-same, upd-other, upd-both, Apart}
-use Rattle.scheme.specs.Roles as spec
 use Rattle.scheme.proofs.Changes.{role-told, led-own, led-other, led-one, led-away, led-by}
 use Rattle.scheme.proofs.Entries.{entry-stale, once-stale}
+use Rattle.scheme.proofs.Plain.{erased}
 use Rattle.scheme.proofs.Roles.{Use, free, data-of, sequential, random, outside, busy, Roles}
+use Rattle.scheme.proofs.Updates.{upd-same, upd-other, upd-both, Apart}
 
 pub released-is : (c : ℕ) (q : Option Sequential) (k : Sequential) → released c q ≡ Some k → (q ≡ Some k) × (k .owner ≢ c)
 released-is c None k e = let z : _≡_ {A = ℕ} 0 1 = cc in absurd (omega arith)

@@ -1,17 +1,17 @@
 -- Every accepted write, with what it costs.
 use Prim.Native.Nat.{ℕ, suc, _+_, _*_, _/_, _<_, _≤_, min}
-use mathlib.Core.Path.{_≡_, refl, sym, _∙_, ap, subst, subst₂}
-use mathlib.Core.Logic.{_≢_, _⊎_, inl, inr}
-use mathlib.Core.Bool.{true}
-use mathlib.Core.List.{List, [], _∷_}
-use native.Mathlib.Omega.{arith}
-use native.Mathlib.Nat.{mul-le-mul-left}
 use lib.Arith.{digits-div, digits-lt}
 use lib.Dec.{eqb, ltb}
 use lib.ListN.{length}
+use mathlib.Core.Bool.{true}
+use mathlib.Core.List.{List, [], _∷_}
+use mathlib.Core.Logic.{_≢_, _⊎_, inl, inr}
+use mathlib.Core.Path.{_≡_, refl, sym, _∙_, ap, subst, subst₂}
+use native.Mathlib.Nat.{mul-le-mul-left}
+use native.Mathlib.Omega.{arith}
 use Rattle.std.specs.Options.{isSome}
-use Rattle.std.specs.declared.option.Option.{Option}
 use Rattle.std.specs.declared.option.Option.the-variants.{Some, None}
+use Rattle.std.specs.declared.option.Option.{Option}
 use Rattle.std.proofs.shelf.Lists.{length-map, length-drop, length-push}
 use Rattle.std.proofs.shelf.Tests.{cases-eq, cases-bool, eq-eqb, ne-eqb, ltb-true, ltb-false}
 use Rattle.flash.specs.Meaning.{Page, blank}
@@ -20,15 +20,15 @@ use Rattle.scheme.specs.Place.{sequential-place}
 use Rattle.scheme.specs.Steps.{Fresh, settle-owner, retire, reclaim, take-log, thinned, make-room, append-random, append-sequential, write-first, write-start, open-sequential, write-sequential, write-random, overwrite}
 use Rattle.scheme.specs.Tables.{Tables, Sequential, live, stale-if, stale-all, owned, released}
 use Rattle.scheme.specs.Work.{line, State, Work, idle, _then_}
-use Rattle.scheme.proofs.Updates.{upd-same, upd-other}
-use Rattle.scheme.proofs.Roles.{data-of, busy, inside}
-use Rattle.scheme.proofs.Works.{Marked, Does, does-then, does-to, does-idle, program-does, source, put}
 use Rattle.scheme.proofs.Held.{Inv}
-use Rattle.scheme.proofs.Settle.{settles, replaces, owned-is}
-use Rattle.scheme.proofs.Writes.{first-inv, same-sector}
-use Rattle.scheme.proofs.Sequences.{open-end, open-inv, open-does, longer-end, append-inv, append-does}
 use Rattle.scheme.proofs.Randoms.{retire-inv, retire-does, shortened-end, extend-inv, extend-does, extended-end, note-inv, note-does, noted-end}
+use Rattle.scheme.proofs.Roles.{data-of, busy, inside}
+use Rattle.scheme.proofs.Sequences.{open-end, open-inv, open-does, longer-end, append-inv, append-does}
+use Rattle.scheme.proofs.Settle.{settles, replaces, owned-is}
+use Rattle.scheme.proofs.Updates.{upd-same, upd-other}
 use Rattle.scheme.proofs.Visits.{visits, tally-le}
+use Rattle.scheme.proofs.Works.{Marked, Does, does-then, does-to, does-idle, program-does, source, put}
+use Rattle.scheme.proofs.Writes.{first-inv, same-sector}
 
 -- what is charged for the log blocks: P for the sequential one, P + 1 for each filled page of the random ones
 abbrev pub charge : ℕ → Tables → ℕ

@@ -1,20 +1,20 @@
 -- Each block has one role: at most one by its kind, and the counts add up.
 use Prim.Native.Nat.{ℕ, zero, suc, _+_, _<_, _≤_}
-use mathlib.Core.Path.{_≡_, refl, sym, _∙_, ap, ap₂}
-use mathlib.Core.Logic.{_≢_, inl, inr}
-use mathlib.Core.List.{List, [], _∷_}
-use native.Mathlib.Omega.{arith}
 use lib.ListN.{length}
-use Rattle.std.specs.declared.option.Option.{Option}
+use mathlib.Core.List.{List, [], _∷_}
+use mathlib.Core.Logic.{_≢_, inl, inr}
+use mathlib.Core.Path.{_≡_, refl, sym, _∙_, ap, ap₂}
+use native.Mathlib.Omega.{arith}
 use Rattle.std.specs.declared.option.Option.the-variants.{Some, None}
+use Rattle.std.specs.declared.option.Option.{Option}
 use Rattle.std.specs.shelf.Lists.{All}
 use Rattle.std.proofs.shelf.Elements.{all-weaker}
 use Rattle.std.proofs.shelf.Tests.{cases-eq, eq-eqb, ne-eqb}
 use Rattle.scheme.specs.Functions.{sum-below}
 use Rattle.scheme.specs.Roles.{is-block, times, times-sequential, roles-of, Tables-right}
 use Rattle.scheme.specs.Tables.{Tables, Sequential}
-use Rattle.scheme.proofs.Updates.{Apart}
 use Rattle.scheme.proofs.Roles.{Use, free, data-of, sequential, random, outside, kind, busy, Roles, data-same, inside}
+use Rattle.scheme.proofs.Updates.{Apart}
 
 is-same : (a b : ℕ) → a ≡ b → is-block a b ≡ 1
 is-same a b e = rw (eq-eqb a b e) refl

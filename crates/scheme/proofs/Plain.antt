@@ -1,15 +1,15 @@
 -- What a program and an erase leave where the device does not refuse them.
 use Prim.Native.Nat.{ℕ, _+_, _<_}
-use mathlib.Core.Path.{_≡_, refl, sym, _∙_, ap, ap₂, fun-ext}
-use mathlib.Core.Logic.{_≢_, inl, inr}
-use mathlib.Core.Bool.{cond, _&&_}
-use mathlib.Core.List.{List}
 use lib.Dec.{eqb}
 use lib.ListN.{length}
+use mathlib.Core.Bool.{cond, _&&_}
+use mathlib.Core.List.{List}
+use mathlib.Core.Logic.{_≢_, inl, inr}
+use mathlib.Core.Path.{_≡_, refl, sym, _∙_, ap, ap₂, fun-ext}
 use native.Mathlib.Omega.{arith}
 use Rattle.std.proofs.shelf.Tests.{eq-eqb, ne-eqb, lt-ltb, cases-eq}
-use Rattle.flash.specs.Meaning.{Flash, Page, blank, holds}
 use Rattle.flash.specs.Calls as calls
+use Rattle.flash.specs.Meaning.{Flash, Page, blank, holds}
 use Rattle.scheme.specs.Functions.{upd}
 use Rattle.scheme.specs.Work.{put-page, seen}
 use Rattle.scheme.proofs.Updates.{upd-self}

@@ -1,37 +1,37 @@
 -- Writes into the random log blocks: a page more, a block more, and the oldest block given up.
 use Prim.Native.Nat.{ℕ, suc, _+_, _*_, _/_, _%_, _<_, _≤_}
-use mathlib.Core.Path.{_≡_, refl, sym, _∙_, ap, subst}
-use mathlib.Core.Logic.{_≢_, inl, inr}
-use mathlib.Core.Bool.{true}
-use mathlib.Core.List.{List, [], _∷_, _++_}
-use native.Mathlib.Omega.{arith}
-use native.Mathlib.Nat.{div-add-mod', mod-lt, mul-le-mul-right, div-lt-iff-lt-mul, add-div-right, add-mod-right}
-use native.Mathlib.Numerals.{add-one}
 use lib.Dec.{eqb}
 use lib.ListN.{length, getD, drop}
+use mathlib.Core.Bool.{true}
+use mathlib.Core.List.{List, [], _∷_, _++_}
+use mathlib.Core.Logic.{_≢_, inl, inr}
+use mathlib.Core.Path.{_≡_, refl, sym, _∙_, ap, subst}
+use native.Mathlib.Nat.{div-add-mod', mod-lt, mul-le-mul-right, div-lt-iff-lt-mul, add-div-right, add-mod-right}
+use native.Mathlib.Numerals.{add-one}
+use native.Mathlib.Omega.{arith}
 use Rattle.std.specs.Options.{isSome}
-use Rattle.std.specs.declared.option.Option.{Option}
 use Rattle.std.specs.declared.option.Option.the-variants.{Some, None}
+use Rattle.std.specs.declared.option.Option.{Option}
 use Rattle.std.specs.shelf.Lists.{All}
-use Rattle.std.proofs.shelf.Lists.{length-map, length-push, length-drop, getD-append-left, getD-push}
 use Rattle.std.proofs.shelf.Elements.{all-weaker, all-getD, all-push}
+use Rattle.std.proofs.shelf.Lists.{length-map, length-push, length-drop, getD-append-left, getD-push}
 use Rattle.std.proofs.shelf.Tests.{cases-eq, cases-lt, eq-eqb, ne-eqb}
 use Rattle.flash.specs.Meaning.{Page, blank}
 use Rattle.scheme.specs.Functions.{upd}
 use Rattle.scheme.specs.Place.{Place, place, placed, entry-of, sequential-place, or-else}
+use Rattle.scheme.specs.Roles as spec
 use Rattle.scheme.specs.Steps.{append-random, take-log, retire, turn}
 use Rattle.scheme.specs.Tables.{Tables, live, stale, stale-all}
 use Rattle.scheme.specs.Work.{line, State, retable, do-erase}
-use Rattle.scheme.proofs.Plain.{programmed, erased}
-use Rattle.scheme.specs.Roles as spec
 use Rattle.scheme.proofs.Changes.{role-told, led-one, led-by}
-use Rattle.scheme.proofs.Updates.{upd-same, upd-other, upd-both, Apart, apart-push}
 use Rattle.scheme.proofs.Entries.{entry-in, entry-stale, entry-push-same, entry-push-other, entry-drop, entry-shift, later, once-push, once-drop}
-use Rattle.scheme.proofs.Roles.{Use, free, data-of, sequential, random, outside, kind, Roles, other-kind, inside, place-busy}
-use Rattle.scheme.proofs.Works.{Marked, Does, does-then, does-table, program-does, erase-does, put}
 use Rattle.scheme.proofs.Held.{Held, Inv}
-use Rattle.scheme.proofs.Writes.{log-view, log-behind, elsewhere, log-grows, both-weaker}
+use Rattle.scheme.proofs.Plain.{programmed, erased}
+use Rattle.scheme.proofs.Roles.{Use, free, data-of, sequential, random, outside, kind, Roles, other-kind, inside, place-busy}
 use Rattle.scheme.proofs.Sequences.{taken-kept}
+use Rattle.scheme.proofs.Updates.{upd-same, upd-other, upd-both, Apart, apart-push}
+use Rattle.scheme.proofs.Works.{Marked, Does, does-then, does-table, program-does, erase-does, put}
+use Rattle.scheme.proofs.Writes.{log-view, log-behind, elsewhere, log-grows, both-weaker}
 
 -- the places of entries: only the last block has room
 pub last-block : (P n e q p : ℕ) → 0 < P → P * n ≤ e + P → q < n → p < P → e < q * P + p → q ≡ e / P

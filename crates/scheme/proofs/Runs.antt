@@ -1,16 +1,16 @@
 -- Every run on a formatted layer answers as the ledger does, asks only what is sound, and wears the device no more than allowed.
 use Prim.Native.Nat.{ℕ, zero, suc, _+_, _*_, _/_, _%_, _<_, _≤_, min}
-use mathlib.Core.Path.{_≡_, refl, sym, _∙_, ap, ap₂, subst}
-use mathlib.Core.Logic.{inl, inr}
-use mathlib.Core.Bool.{Bool, true, false, cond, _&&_}
-use mathlib.Core.List.{List, [], _∷_, _++_}
-use native.Mathlib.Omega.{arith}
-use native.Mathlib.Nat.{div-lt-iff-lt-mul, div-add-mod', mod-lt, mul-le-mul-left}
 use lib.Dec.{eqb, ltb, leb}
 use lib.ListN.{length}
+use mathlib.Core.Bool.{Bool, true, false, cond, _&&_}
+use mathlib.Core.List.{List, [], _∷_, _++_}
+use mathlib.Core.Logic.{inl, inr}
+use mathlib.Core.Path.{_≡_, refl, sym, _∙_, ap, ap₂, subst}
+use native.Mathlib.Nat.{div-lt-iff-lt-mul, div-add-mod', mod-lt, mul-le-mul-left}
+use native.Mathlib.Omega.{arith}
 use Rattle.std.specs.Options.{isSome}
-use Rattle.std.specs.declared.option.Option.{Option}
 use Rattle.std.specs.declared.option.Option.the-variants.{Some, None}
+use Rattle.std.specs.declared.option.Option.{Option}
 use Rattle.std.specs.shelf.Lists.{All}
 use Rattle.std.proofs.shelf.Elements.{all-weaker}
 use Rattle.std.proofs.shelf.Tests.{cases-bool, cases-lt, cases-eq, ltb-true, ltb-false, leb-true, leb-false, le-ltb, lt-ltb, eqb-true, and-parts, and-from, or-parts}
@@ -25,14 +25,14 @@ use Rattle.scheme.specs.Runs.{Start, Layer, Outcome, unchanged, call, write-re
 use Rattle.scheme.specs.Steps.{page-of, seen-of, formatted, write as write-steps}
 use Rattle.scheme.specs.Tables.{Tables}
 use Rattle.scheme.specs.Work.{State, line}
-use Rattle.scheme.proofs.Partition.{tables-right}
-use Rattle.scheme.proofs.Works.{Marked, Wears, Marks, Allowed, unrefused}
-use Rattle.scheme.proofs.Plain.{sees}
-use Rattle.scheme.proofs.Roles.{data-of, inside, place-inside, place-page}
-use Rattle.scheme.proofs.Held.{Inv}
-use Rattle.scheme.proofs.Overwrites.{charge}
 use Rattle.scheme.proofs.Accepted.{writes}
 use Rattle.scheme.proofs.Formats.{formats, format-cleans}
+use Rattle.scheme.proofs.Held.{Inv}
+use Rattle.scheme.proofs.Overwrites.{charge}
+use Rattle.scheme.proofs.Partition.{tables-right}
+use Rattle.scheme.proofs.Plain.{sees}
+use Rattle.scheme.proofs.Roles.{data-of, inside, place-inside, place-page}
+use Rattle.scheme.proofs.Works.{Marked, Wears, Marks, Allowed, unrefused}
 
 -- what holds of the rest of a run, with E erases so far
 pub record Kept (P L : ℕ) (y : Layer) (g : Ledger) (E : ℕ) (cs : List Call) : Type 0 where

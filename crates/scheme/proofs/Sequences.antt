@@ -1,34 +1,34 @@
 -- Writes into the sequential log block.
 use Prim.Native.Nat.{ℕ, _+_, _*_, _<_}
-use mathlib.Core.Path.{_≡_, refl, sym, _∙_, ap, ap₂, subst}
-use mathlib.Core.Logic.{_≢_, inl, inr}
-use mathlib.Core.Bool.{true}
-use mathlib.Core.List.{List, [], _∷_}
-use native.Mathlib.Omega.{arith}
 use lib.Dec.{eqb}
 use lib.ListN.{length, getD}
+use mathlib.Core.Bool.{true}
+use mathlib.Core.List.{List, [], _∷_}
+use mathlib.Core.Logic.{_≢_, inl, inr}
+use mathlib.Core.Path.{_≡_, refl, sym, _∙_, ap, ap₂, subst}
+use native.Mathlib.Omega.{arith}
 use Rattle.std.specs.Options.{isSome}
-use Rattle.std.specs.declared.option.Option.{Option}
 use Rattle.std.specs.declared.option.Option.the-variants.{Some, None}
+use Rattle.std.specs.declared.option.Option.{Option}
 use Rattle.std.specs.shelf.Lists.{All}
-use Rattle.std.proofs.shelf.Lists.{length-map}
 use Rattle.std.proofs.shelf.Elements.{all-weaker, all-getD}
+use Rattle.std.proofs.shelf.Lists.{length-map}
 use Rattle.std.proofs.shelf.Tests.{cond-both, cases-eq, cases-lt, eq-eqb, ne-eqb, lt-ltb, le-ltb}
 use Rattle.flash.specs.Meaning.{Page, blank}
 use Rattle.scheme.specs.Functions.{upd}
 use Rattle.scheme.specs.Place.{place, entry-of}
+use Rattle.scheme.specs.Roles as spec
 use Rattle.scheme.specs.Roles.{Led}
 use Rattle.scheme.specs.Steps.{open-sequential, append-sequential, turn}
 use Rattle.scheme.specs.Tables.{Tables, Sequential, stale-all}
 use Rattle.scheme.specs.Work.{line, State, retable}
-use Rattle.scheme.proofs.Plain.{programmed}
-use Rattle.scheme.specs.Roles as spec
 use Rattle.scheme.proofs.Changes.{role-told, led-one, led-by, led-none}
-use Rattle.scheme.proofs.Updates.{upd-same, upd-other, Apart}
 use Rattle.scheme.proofs.Entries.{entry-stale, once-stale}
-use Rattle.scheme.proofs.Roles.{Use, free, data-of, sequential, random, outside, kind, busy, Roles, other-kind, inside}
-use Rattle.scheme.proofs.Works.{Marked, Does, does-then, does-table, program-does, put}
 use Rattle.scheme.proofs.Held.{Held, Inv}
+use Rattle.scheme.proofs.Plain.{programmed}
+use Rattle.scheme.proofs.Roles.{Use, free, data-of, sequential, random, outside, kind, busy, Roles, other-kind, inside}
+use Rattle.scheme.proofs.Updates.{upd-same, upd-other, Apart}
+use Rattle.scheme.proofs.Works.{Marked, Does, does-then, does-table, program-does, put}
 use Rattle.scheme.proofs.Writes.{log-view, log-behind, elsewhere, log-grows, both-weaker}
 
 -- a sequential log block with one page taken for logical block b

@@ -1,29 +1,29 @@
 -- The settling of a logical block, and the merge that an overwrite in the sequential log block makes.
 use Prim.Native.Nat.{ℕ, _+_, _*_, _/_, _-_, _<_, _≤_}
-use mathlib.Core.Path.{_≡_, refl, sym, _∙_, ap, subst}
-use mathlib.Core.Logic.{_≢_, inl, inr}
-use mathlib.Core.List.{List, [], _∷_}
-use native.Mathlib.Omega.{arith}
 use lib.Dec.{eqb}
 use lib.ListN.{length}
-use Rattle.std.specs.declared.option.Option.{Option}
+use mathlib.Core.List.{List, [], _∷_}
+use mathlib.Core.Logic.{_≢_, inl, inr}
+use mathlib.Core.Path.{_≡_, refl, sym, _∙_, ap, subst}
+use native.Mathlib.Omega.{arith}
 use Rattle.std.specs.declared.option.Option.the-variants.{Some, None}
+use Rattle.std.specs.declared.option.Option.{Option}
 use Rattle.std.specs.shelf.Lists.{All}
 use Rattle.std.proofs.shelf.Elements.{all-weaker}
 use Rattle.std.proofs.shelf.Tests.{cond-both, cases-bool, eq-eqb, eqb-true, lt-ltb, cases-lt}
 use Rattle.flash.specs.Meaning.{Page, blank}
 use Rattle.scheme.specs.Place.{Place, place, entry-place}
+use Rattle.scheme.specs.Roles as spec
 use Rattle.scheme.specs.Roles.{Event}
 use Rattle.scheme.specs.Steps.{merge, merge-free, settle, Fresh}
 use Rattle.scheme.specs.Tables.{Tables, Sequential, stale-all, owned, released}
 use Rattle.scheme.specs.Work.{line, State, Work}
-use Rattle.scheme.specs.Roles as spec
 use Rattle.scheme.proofs.Changes.{role-told}
-use Rattle.scheme.proofs.Updates.{Apart}
-use Rattle.scheme.proofs.Roles.{Use, free, data-of, sequential, random, busy, Roles, other-kind, unlike, place-busy, where-is, in-sequential, in-random, in-data, entry-role}
-use Rattle.scheme.proofs.Merges.{Merge, Mild}
-use Rattle.scheme.proofs.Works.{Does, row, row-before, row-in, source, Fresh-marked}
 use Rattle.scheme.proofs.Held.{Held, Inv, merge-end, roles, merge-held, merge-does}
+use Rattle.scheme.proofs.Merges.{Merge, Mild}
+use Rattle.scheme.proofs.Roles.{Use, free, data-of, sequential, random, busy, Roles, other-kind, unlike, place-busy, where-is, in-sequential, in-random, in-data, entry-role}
+use Rattle.scheme.proofs.Updates.{Apart}
+use Rattle.scheme.proofs.Works.{Does, row, row-before, row-in, source, Fresh-marked}
 
 pub owned-is : (c : ℕ) (q : Option Sequential) (k : Sequential) → owned c q ≡ Some k → (q ≡ Some k) × (k .owner ≡ c)
 owned-is c None k e = let z : _≡_ {A = ℕ} 0 1 = cc in absurd (omega arith)

@@ -1,15 +1,15 @@
 -- The oldest random log block given up: each live entry's logical block settled, in page order, and then the block freed.
 use Prim.Native.Nat.{ℕ, zero, suc, _+_, _/_, _<_, _≤_}
-use mathlib.Core.Path.{_≡_, refl, sym, _∙_, ap}
-use mathlib.Core.Logic.{_≢_, _⊎_, inl, inr}
-use mathlib.Core.Bool.{Bool, true, false, cond}
-use mathlib.Core.List.{List, [], _∷_}
-use native.Mathlib.Omega.{arith}
-use native.Mathlib.Nat.{div-lt-iff-lt-mul, zero-add}
 use lib.Dec.{eqb}
 use lib.ListN.{length, getD}
-use Rattle.std.specs.declared.option.Option.{Option}
+use mathlib.Core.Bool.{Bool, true, false, cond}
+use mathlib.Core.List.{List, [], _∷_}
+use mathlib.Core.Logic.{_≢_, _⊎_, inl, inr}
+use mathlib.Core.Path.{_≡_, refl, sym, _∙_, ap}
+use native.Mathlib.Nat.{div-lt-iff-lt-mul, zero-add}
+use native.Mathlib.Omega.{arith}
 use Rattle.std.specs.declared.option.Option.the-variants.{Some, None}
+use Rattle.std.specs.declared.option.Option.{Option}
 use Rattle.std.proofs.shelf.Lists.{length-map}
 use Rattle.std.proofs.shelf.Tests.{cond-both, cases-eq, cases-bool, eq-eqb, eqb-false}
 use Rattle.scheme.specs.Functions.{upd}
@@ -17,12 +17,12 @@ use Rattle.scheme.specs.Place.{entry-of}
 use Rattle.scheme.specs.Steps.{visit, settle}
 use Rattle.scheme.specs.Tables.{Sequential, Entry, live, stale, stale-if, released}
 use Rattle.scheme.specs.Work.{each, State}
-use Rattle.scheme.proofs.Updates.{upd-same, upd-other}
 use Rattle.scheme.proofs.Entries.{stale-at, still-live}
-use Rattle.scheme.proofs.Roles.{busy}
-use Rattle.scheme.proofs.Works.{Does, does-then, does-to, does-idle}
 use Rattle.scheme.proofs.Held.{Inv}
+use Rattle.scheme.proofs.Roles.{busy}
 use Rattle.scheme.proofs.Settle.{Settled, settles}
+use Rattle.scheme.proofs.Updates.{upd-same, upd-other}
+use Rattle.scheme.proofs.Works.{Does, does-then, does-to, does-idle}
 
 -- how many numbers below n pass a test
 pub tally : ℕ → (ℕ → Bool) → ℕ

@@ -1,18 +1,19 @@
 -- What a piece of work does: the state that it ends in, its erases, and that all it asks is sound; and the copy of a range of
 -- offsets into a block.
 use Prim.Native.Nat.{ℕ, zero, suc, _+_, _*_, _<_, _≤_}
-use mathlib.Core.Path.{_≡_, refl, sym, _∙_, ap, ap₂, subst, subst₂}
-use mathlib.Core.Logic.{_≢_, inl, inr}
+use lib.Dec.{eqb}
+use lib.ListN.{length}
 use mathlib.Core.Bool.{true, false, cond}
 use mathlib.Core.List.{List, []}
+use mathlib.Core.Logic.{_≢_, inl, inr}
+use mathlib.Core.Path.{_≡_, refl, sym, _∙_, ap, ap₂, subst, subst₂}
 use native.Mathlib.Omega.{arith}
-use lib.Dec.{eqb}
-use Rattle.std.specs.declared.option.Option.{Option}
 use Rattle.std.specs.declared.option.Option.the-variants.{Some, None}
+use Rattle.std.specs.declared.option.Option.{Option}
 use Rattle.std.specs.shelf.Lists.{All}
 use Rattle.std.proofs.shelf.Elements.{all-append}
-use lib.ListN.{length}
 use Rattle.std.proofs.shelf.Tests.{cases-eq, eq-eqb, ne-eqb, lt-ltb}
+use Rattle.flash.specs.Meaning.{Flash, Page, blank, holds}
 use Rattle.scheme.specs.Asks.{Unrefused, Sound}
 use Rattle.scheme.specs.Functions.{upd, sum-below}
 use Rattle.scheme.specs.Place.{place}
@@ -21,7 +22,6 @@ use Rattle.scheme.specs.Steps.{Fresh, page-of, seen-of, transfer}
 use Rattle.scheme.specs.Tables.{Tables}
 use Rattle.scheme.specs.Work.{each, State, Work, Moment, Ask, program, erase, idle, _then_, retable, do-program, do-copy, do-erase, put-page}
 use Rattle.scheme.proofs.Changes.{led-then}
-use Rattle.flash.specs.Meaning.{Flash, Page, blank, holds}
 use Rattle.scheme.proofs.Plain.{with-pages, programmed, erased, programs, programs-none, erases, sees}
 use Rattle.scheme.proofs.Updates.{upd-same, upd-other, upd-both, upd-self, upd-twice}
 

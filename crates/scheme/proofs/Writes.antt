@@ -1,15 +1,15 @@
 -- The writes that program one page: the first write of a sector, and those into the log blocks.
 use Prim.Native.Nat.{ℕ, _+_, _*_, _/_, _%_, _<_}
-use mathlib.Core.Path.{_≡_, refl, sym, _∙_, ap, ap₂}
-use mathlib.Core.Logic.{_≢_, inl, inr}
-use mathlib.Core.Bool.{true, false}
-use mathlib.Core.List.{List, [], _∷_}
-use native.Mathlib.Omega.{arith}
 use lib.Arith.{digits-div, digits-mod}
 use lib.ListN.{getD}
+use mathlib.Core.Bool.{true, false}
+use mathlib.Core.List.{List, [], _∷_}
+use mathlib.Core.Logic.{_≢_, inl, inr}
+use mathlib.Core.Path.{_≡_, refl, sym, _∙_, ap, ap₂}
+use native.Mathlib.Omega.{arith}
 use Rattle.std.specs.Options.{isSome}
-use Rattle.std.specs.declared.option.Option.{Option}
 use Rattle.std.specs.declared.option.Option.the-variants.{Some}
+use Rattle.std.specs.declared.option.Option.{Option}
 use Rattle.std.specs.shelf.Lists.{All}
 use Rattle.std.proofs.shelf.Elements.{all-getD}
 use Rattle.std.proofs.shelf.Tests.{cases-eq}
@@ -19,10 +19,10 @@ use Rattle.scheme.specs.Place.{Place, place}
 use Rattle.scheme.specs.Steps.{page-of}
 use Rattle.scheme.specs.Tables.{Tables}
 use Rattle.scheme.specs.Work.{line, State}
-use Rattle.scheme.proofs.Updates.{upd-same, upd-other, upd-both}
-use Rattle.scheme.proofs.Roles.{Use, free, data-of, sequential, random, Roles, data-same, other-kind, where-is, in-sequential, in-random, in-data}
-use Rattle.scheme.proofs.Works.{put}
 use Rattle.scheme.proofs.Held.{Held, Inv}
+use Rattle.scheme.proofs.Roles.{Use, free, data-of, sequential, random, Roles, data-same, other-kind, where-is, in-sequential, in-random, in-data}
+use Rattle.scheme.proofs.Updates.{upd-same, upd-other, upd-both}
+use Rattle.scheme.proofs.Works.{put}
 
 -- two offsets with one sector number are the same
 pub same-sector : (P b o d q : ℕ) → o < P → q < P → d * P + q ≡ b * P + o → (d ≡ b) × (q ≡ o)

@@ -1,9 +1,9 @@
 -- What may be asked of the device at a moment, and what it does not refuse.
 use Prim.Native.Nat.{ℕ, _<_}
-use mathlib.Core.Bool.{true}
-use mathlib.Core.Path.{_≡_}
-use mathlib.Core.Logic.{_≢_}
 use lib.ListN.{length}
+use mathlib.Core.Bool.{true}
+use mathlib.Core.Logic.{_≢_}
+use mathlib.Core.Path.{_≡_}
 use Rattle.flash.specs.Calls.{accepts, program-answer, erase-answer}
 use Rattle.flash.specs.Meaning.{blank, holds}
 use Rattle.scheme.specs.Place.{place}

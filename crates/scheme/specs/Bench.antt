@@ -1,8 +1,8 @@
 -- A worked run on a small device: eight blocks of four pages with a life of 100, four logical blocks, two random log blocks, first stamp 1.
 use Prim.Native.Nat.{ℕ}
-use mathlib.Core.Path.{_≡_}
-use mathlib.Core.List.{List, [], _∷_, _++_}
 use lib.ListN.{replicate}
+use mathlib.Core.List.{List, [], _∷_, _++_}
+use mathlib.Core.Path.{_≡_}
 use Rattle.flash.specs.Meaning.{blank}
 use Rattle.scheme.specs.Ledger.{Answer, Call, write, wrote, Reply}
 use Rattle.scheme.specs.Runs.{Start, replies}

@@ -1,7 +1,7 @@
 -- Functions of numbers: one value changed, the sum of the values below a bound, and whether a test passes below it.
 use Prim.Native.Nat.{ℕ, zero, suc, _+_}
-use mathlib.Core.Bool.{Bool, false, cond, _||_}
 use lib.Dec.{eqb}
+use mathlib.Core.Bool.{Bool, false, cond, _||_}
 
 -- f with the value x at a
 unfoldable pub upd : {A : Type 0} → (ℕ → A) → ℕ → A → ℕ → A

@@ -1,7 +1,7 @@
 -- The law of runs: what holds of every list of calls on every device from format on, and how a call adds to it.
 use Prim.Native.Nat.{ℕ, _+_, _/_, _<_, _≤_}
-use mathlib.Core.Path.{_≡_}
 use mathlib.Core.List.{List, [], _∷_, _++_}
+use mathlib.Core.Path.{_≡_}
 use Rattle.std.specs.shelf.Lists.{All}
 use Rattle.flash.specs.Meaning.{blank}
 use Rattle.scheme.specs.Asks.{Sound, Unrefused}

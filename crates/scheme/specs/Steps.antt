@@ -1,11 +1,11 @@
 -- The steps of a write, and of format: each is a function from the state before to the work.
 use Prim.Native.Nat.{ℕ, zero, suc, _+_, _-_, _*_, _/_, _%_}
-use mathlib.Core.Bool.{true, false, cond}
-use mathlib.Core.List.{List, [], _∷_, _++_, map}
 use lib.Dec.{eqb, ltb}
 use lib.ListN.{getD, length, drop}
-use Rattle.std.specs.declared.option.Option.{Option}
+use mathlib.Core.Bool.{true, false, cond}
+use mathlib.Core.List.{List, [], _∷_, _++_, map}
 use Rattle.std.specs.declared.option.Option.the-variants.{Some, None}
+use Rattle.std.specs.declared.option.Option.{Option}
 use Rattle.flash.specs.Meaning.{Flash, Page, blank, holds}
 use Rattle.scheme.specs.Functions.{upd}
 use Rattle.scheme.specs.Place.{place, entry-place}

@@ -1,10 +1,10 @@
 -- The tables: which block holds the data of each logical block, the log blocks with what is in them, the free blocks and the next stamp.
 use Prim.Native.Nat.{ℕ}
+use lib.Dec.{eqb}
 use mathlib.Core.Bool.{Bool, cond}
 use mathlib.Core.List.{List, map}
-use lib.Dec.{eqb}
-use Rattle.std.specs.declared.option.Option.{Option}
 use Rattle.std.specs.declared.option.Option.the-variants.{Some, None}
+use Rattle.std.specs.declared.option.Option.{Option}
 
 -- The sequential log block: its pages 0 to fill - 1 hold the offsets 0 to fill - 1 of its owner, a logical block.
 pub record Sequential : Type 0 where

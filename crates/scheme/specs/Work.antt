@@ -2,11 +2,11 @@
 --
 -- Work is total: it asks the device by its own functions, in which a refused program or erase changes nothing, and goes on.
 use Prim.Native.Nat.{ℕ, zero, suc, _+_}
+use lib.Dec.{ltb}
 use mathlib.Core.Bool.{cond, _&&_}
 use mathlib.Core.List.{List, [], _∷_, _++_}
-use lib.Dec.{ltb}
-use Rattle.std.specs.declared.option.Option.{Option}
 use Rattle.std.specs.declared.option.Option.the-variants.{Some, None}
+use Rattle.std.specs.declared.option.Option.{Option}
 use Rattle.flash.specs.Calls as device
 use Rattle.flash.specs.Meaning.{Flash, Page, blank, holds}
 use Rattle.scheme.specs.Roles.{Change}

@@ -2,18 +2,18 @@
 // event. The tables are taken apart by a pattern, their parts change in place, and a literal makes them again, which owes every rule of the
 // tables once. A block that is given up goes to the back of the free list here; the caller erases it before anything else.
 
-ghost use mathlib.Core.Path.{_≡_};
-ghost use mathlib.Core.List.{[], _∷_, _++_};
 ghost use Prim.Native.Nat.{_+_, _*_, _-_, _<_, _≤_};
-ghost use lib.ListN.{drop, getD};
-ghost use Rattle.std.specs.Of.Vec.{vec-len, vec-items};
-ghost use Rattle.std.specs.declared.option.Option.the-variants.{Some, None};
 ghost use lib.Dec.{eqb};
+ghost use lib.ListN.{drop, getD};
+ghost use mathlib.Core.List.{[], _∷_, _++_};
+ghost use mathlib.Core.Path.{_≡_};
+ghost use Rattle.std.specs.Of.Vec.{vec-len};
+ghost use Rattle.std.specs.declared.option.Option.the-variants.{Some, None};
 ghost use Rattle.scheme.specs.Roles.{Led, taken-as-data, taken-as-sequential, taken-as-random, finished, erased};
 ghost use Rattle.scheme.specs.Steps.{merged, turn};
 ghost use Rattle.scheme.specs.Tables.{owned, stale-all, live, with-sequential, with-random, with-free, with-next};
-ghost use Rattle.fast.specs.Views.{sw-view, numbers};
-ghost use Rattle.fast.specs.Meaning.{view-of, Sized, Logged};
+ghost use Rattle.fast.specs.Meaning.{view-of, front-of, rest-of, Sized, Logged};
+ghost use Rattle.fast.specs.Views.{sw-view};
 use crate::numbers::LogicalBlock;
 use crate::tables::Tables;
 use crate::tables::sequential::Sw;
@@ -21,14 +21,15 @@ use flash::numbers::Block;
 use flash::numbers::Sector;
 
 impl Tables {
-    // The first free block becomes the data block of a logical block that does not own the sequential log block. Answers the old one, which is free.
+    // The first free block becomes the data block of a logical block that does not own the sequential log block. Answers the old one, which
+    // is free.
     pub(crate) fn renew(self, c: LogicalBlock) -> (Tables, Block)
         requires known { ⌜ c .0 < self .sizes .logical ⌝ }
         requires unowned { ⌜ owned (c .0) (sw-view (self .sw)) ≡ None ⌝ }
         requires some { ⌜ 0 < vec-len (self .free .blocks) ⌝ }
-        ensures tables { λ r. ⌜ view-of (r .0) ≡ merged (self .sizes .pages) (c .0) (getD (numbers (vec-items (self .free .blocks))) 0 0) (drop 1 (numbers (vec-items (self .free .blocks)))) (view-of self .data-block (c .0) ∷ []) (view-of self) ⌝ }
+        ensures tables { λ r. ⌜ view-of (r .0) ≡ merged (self .sizes .pages) (c .0) (front-of self) (rest-of self) (view-of self .data-block (c .0) ∷ []) (view-of self) ⌝ }
         ensures old { λ r. ⌜ r .1 .0 ≡ view-of self .data-block (c .0) ⌝ }
-        ensures roles { λ r. ⌜ Led (self .sizes .blocks) (view-of self) (turn taken-as-data (getD (numbers (vec-items (self .free .blocks))) 0 0) ∷ turn erased (view-of self .data-block (c .0)) ∷ []) (view-of (r .0)) ⌝ }
+        ensures roles { λ r. ⌜ Led (self .sizes .blocks) (view-of self) (turn taken-as-data (front-of self) ∷ turn erased (view-of self .data-block (c .0)) ∷ []) (view-of (r .0)) ⌝ }
         ensures sized { λ r. ⌜ Sized (r .0) self ⌝ }
         ensures logged { λ r. ⌜ Logged (r .0) self ⌝ }
     {
@@ -61,7 +62,7 @@ impl Tables {
     // The sequential log block becomes its owner's data block. Answers the old one, which is free.
     pub(crate) fn adopt(self, sw: Sw) -> (Tables, Block)
         requires has { ⌜ self .sw ≡ Some sw ⌝ }
-        ensures tables { λ r. ⌜ view-of (r .0) ≡ merged (self .sizes .pages) (sw .owner .0) (sw .block .0) (numbers (vec-items (self .free .blocks))) (view-of self .data-block (sw .owner .0) ∷ []) (view-of self) ⌝ }
+        ensures tables { λ r. ⌜ view-of (r .0) ≡ merged (self .sizes .pages) (sw .owner .0) (sw .block .0) (view-of self .free) (view-of self .data-block (sw .owner .0) ∷ []) (view-of self) ⌝ }
         ensures none { λ r. ⌜ r .0 .sw ≡ None ⌝ }
         ensures old { λ r. ⌜ r .1 .0 ≡ view-of self .data-block (sw .owner .0) ⌝ }
         ensures roles { λ r. ⌜ Led (self .sizes .blocks) (view-of self) (turn finished (sw .block .0) ∷ turn erased (view-of self .data-block (sw .owner .0)) ∷ []) (view-of (r .0)) ⌝ }
@@ -94,13 +95,14 @@ impl Tables {
         )
     }
 
-    // The first free block becomes the data block of the owner of the sequential log block. Answers the old one; it and the log block are free.
+    // The first free block becomes the data block of the owner of the sequential log block. Answers the old one; it and the log block are
+    // free.
     pub(crate) fn replace(self, sw: Sw) -> (Tables, Block)
         requires has { ⌜ self .sw ≡ Some sw ⌝ }
         requires some { ⌜ 0 < vec-len (self .free .blocks) ⌝ }
-        ensures tables { λ r. ⌜ view-of (r .0) ≡ merged (self .sizes .pages) (sw .owner .0) (getD (numbers (vec-items (self .free .blocks))) 0 0) (drop 1 (numbers (vec-items (self .free .blocks)))) (view-of self .data-block (sw .owner .0) ∷ sw .block .0 ∷ []) (view-of self) ⌝ }
+        ensures tables { λ r. ⌜ view-of (r .0) ≡ merged (self .sizes .pages) (sw .owner .0) (front-of self) (rest-of self) (view-of self .data-block (sw .owner .0) ∷ sw .block .0 ∷ []) (view-of self) ⌝ }
         ensures old { λ r. ⌜ r .1 .0 ≡ view-of self .data-block (sw .owner .0) ⌝ }
-        ensures roles { λ r. ⌜ Led (self .sizes .blocks) (view-of self) (turn taken-as-data (getD (numbers (vec-items (self .free .blocks))) 0 0) ∷ turn erased (view-of self .data-block (sw .owner .0)) ∷ turn erased (sw .block .0) ∷ []) (view-of (r .0)) ⌝ }
+        ensures roles { λ r. ⌜ Led (self .sizes .blocks) (view-of self) (turn taken-as-data (front-of self) ∷ turn erased (view-of self .data-block (sw .owner .0)) ∷ turn erased (sw .block .0) ∷ []) (view-of (r .0)) ⌝ }
         ensures sized { λ r. ⌜ Sized (r .0) self ⌝ }
         ensures logged { λ r. ⌜ Logged (r .0) self ⌝ }
     {
@@ -139,8 +141,8 @@ impl Tables {
         requires known { ⌜ owner .0 < self .sizes .logical ⌝ }
         requires none { ⌜ self .sw ≡ None ⌝ }
         requires some { ⌜ 0 < vec-len (self .free .blocks) ⌝ }
-        ensures tables { λ r. ⌜ view-of r ≡ with-sequential (Some (record { owner = owner .0; block = getD (numbers (vec-items (self .free .blocks))) 0 0; fill = 1 })) (with-free (drop 1 (numbers (vec-items (self .free .blocks)))) (view-of self)) ⌝ }
-        ensures roles { λ r. ⌜ Led (self .sizes .blocks) (view-of self) (turn taken-as-sequential (getD (numbers (vec-items (self .free .blocks))) 0 0) ∷ []) (view-of r) ⌝ }
+        ensures tables { λ r. ⌜ view-of r ≡ with-sequential (Some (record { owner = owner .0; block = front-of self; fill = 1 })) (with-free (rest-of self) (view-of self)) ⌝ }
+        ensures roles { λ r. ⌜ Led (self .sizes .blocks) (view-of self) (turn taken-as-sequential (front-of self) ∷ []) (view-of r) ⌝ }
         ensures sized { λ r. ⌜ Sized r self ⌝ }
     {
         let Tables {
@@ -199,8 +201,8 @@ impl Tables {
         requires fewer { ⌜ vec-len (self .rw .blocks) < self .sizes .random ⌝ }
         requires full { ⌜ self .sizes .pages * vec-len (self .rw .blocks) ≤ vec-len (self .rw .entries) ⌝ }
         requires some { ⌜ 0 < vec-len (self .free .blocks) ⌝ }
-        ensures tables { λ r. ⌜ view-of r ≡ with-random (view-of self .logs ++ (getD (numbers (vec-items (self .free .blocks))) 0 0 ∷ [])) (view-of self .entries) (with-free (drop 1 (numbers (vec-items (self .free .blocks)))) (view-of self)) ⌝ }
-        ensures roles { λ r. ⌜ Led (self .sizes .blocks) (view-of self) (turn taken-as-random (getD (numbers (vec-items (self .free .blocks))) 0 0) ∷ []) (view-of r) ⌝ }
+        ensures tables { λ r. ⌜ view-of r ≡ with-random (view-of self .logs ++ (front-of self ∷ [])) (view-of self .entries) (with-free (rest-of self) (view-of self)) ⌝ }
+        ensures roles { λ r. ⌜ Led (self .sizes .blocks) (view-of self) (turn taken-as-random (front-of self) ∷ []) (view-of r) ⌝ }
         ensures sized { λ r. ⌜ Sized r self ⌝ }
         ensures room { λ r. ⌜ vec-len (r .rw .entries) < r .sizes .pages * vec-len (r .rw .blocks) ⌝ }
     {

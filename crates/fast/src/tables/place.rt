@@ -1,13 +1,13 @@
 // Where a sector is read.
 
-ghost use mathlib.Core.Path.{_≡_};
 ghost use Prim.Native.Nat.{_+_, _*_, _<_};
-ghost use Rattle.scheme.specs.Place.{place, behind};
-ghost use Rattle.scheme.specs.Tables.{owned};
+ghost use mathlib.Core.Path.{_≡_};
 ghost use Rattle.std.specs.Options.{Cases as BySome};
 ghost use Rattle.std.specs.declared.option.Option.the-variants.{Some, None};
-ghost use Rattle.fast.specs.Views.{sw-view};
+ghost use Rattle.scheme.specs.Place.{place, behind};
+ghost use Rattle.scheme.specs.Tables.{owned};
 ghost use Rattle.fast.specs.Meaning.{view-of};
+ghost use Rattle.fast.specs.Views.{sw-view};
 use crate::numbers::LogicalBlock;
 use crate::tables::Tables;
 use crate::tables::random::find_entry;

@@ -1,7 +1,7 @@
 use Prim.Native.Nat.{_+_}
-use mathlib.Core.Path.{sym, _∙_, ap}
-use mathlib.Core.Bool.{not, _&&_}
 use lib.Dec.{ltb}
+use mathlib.Core.Bool.{not, _&&_}
+use mathlib.Core.Path.{sym, _∙_, ap}
 use Rattle.std.specs.declared.option.Option.the-variants.{Some}
 use Rattle.scheme.specs.Functions.{some-below}
 use Rattle.scheme.specs.Runs.{worn}

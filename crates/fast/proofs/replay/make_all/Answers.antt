@@ -1,6 +1,6 @@
+use lib.ListN.{length}
 use mathlib.Core.Path.{refl, sym, _∙_, ap, subst}
 use native.Mathlib.Omega.{arith}
-use lib.ListN.{length}
 use Rattle.std.specs.Of.IntoIter.{into-iter-items}
 use Rattle.std.specs.Of.Vec.{vec-items}
 use Rattle.scheme.specs.Runs.{last-layer, replies-of}

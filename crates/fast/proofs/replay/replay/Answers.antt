@@ -1,8 +1,8 @@
-use mathlib.Core.Path.{sym, _∙_, ap, subst}
 use mathlib.Core.List.{List}
+use mathlib.Core.Path.{sym, _∙_, ap, subst}
 use Rattle.std.specs.Of.Vec.{vec-items}
-use Rattle.scheme.specs.Ledger.{Call}
 use Rattle.scheme.specs.Law.{Law}
+use Rattle.scheme.specs.Ledger.{Call}
 use Rattle.scheme.specs.Runs.{Start, last-layer, replies-of}
 use Rattle.scheme.proofs.Runs.{every-run-is-lawful}
 use Rattle.fast.specs.Replay.{calls-told}

@@ -3,8 +3,8 @@ use mathlib.Core.Path.{refl, ap}
 use native.Mathlib.Omega.{arith}
 use Rattle.std.specs.Of.Vec.{vec-items}
 use Rattle.std.specs.declared.option.Option.the-variants.{None}
-use Rattle.fast.specs.Views.{numbers, entries-view}
 use Rattle.fast.specs.Rules.{live-entries, uses}
+use Rattle.fast.specs.Views.{numbers, entries-view}
 use Rattle.fast.proofs.Rising.{all-once, map-rising}
 use Rattle.fast.proofs.start.start_tables.Needs as need
 

@@ -1,6 +1,6 @@
-use mathlib.Core.Path.{_≡_}
 use Prim.Native.Nat.{_+_}
 use lib.Dec.{ltb}
+use mathlib.Core.Path.{_≡_}
 use Rattle.scheme.specs.Functions.{some-below}
 use Rattle.fast.proofs.wear.worn.Given as given
 

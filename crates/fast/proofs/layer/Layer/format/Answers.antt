@@ -2,8 +2,8 @@ use mathlib.Core.Path.{sym, _∙_, ap}
 use native.Mathlib.Omega.{arith}
 use Rattle.scheme.proofs.Runs.{fits}
 use Rattle.fast.specs.Told.{unfit-number}
-use Rattle.fast.proofs.Measures.{pages-of, logical-of, random-of}
 use Rattle.fast.proofs.Formatted.{formats-nothing, formats-well}
+use Rattle.fast.proofs.Measures.{pages-of, logical-of, random-of}
 use Rattle.fast.proofs.Turns.{begun}
 use Rattle.fast.proofs.layer.Layer.format.Needs as need
 

@@ -1,7 +1,7 @@
 use Prim.Native.Nat.{_<_}
 use mathlib.Core.Path.{_≡_, sym, _∙_, ap, ap₂, subst}
-use native.Mathlib.Omega.{arith}
 use native.Mathlib.Nat.{div-lt-iff-lt-mul, mod-lt}
+use native.Mathlib.Omega.{arith}
 use Rattle.std.specs.declared.option.Option.the-variants.{Some, None}
 use Rattle.scheme.specs.Ledger.{read, refused, shown}
 use Rattle.scheme.specs.Runs.{call}

@@ -1,7 +1,7 @@
 use mathlib.Core.Path.{sym}
 use native.Mathlib.Omega.{arith}
-use Rattle.fast.specs.Meaning.{view-of}
 use Rattle.fast.specs.Leaves.{at}
+use Rattle.fast.specs.Meaning.{view-of}
 use Rattle.fast.proofs.Carried.{carries-fresh}
 use Rattle.fast.proofs.steps.copies.carry.Needs as need
 

@@ -1,6 +1,6 @@
 use native.Mathlib.Omega.{arith}
-use Rattle.fast.specs.Meaning.{view-of}
 use Rattle.fast.specs.Leaves.{fresh-view}
+use Rattle.fast.specs.Meaning.{view-of}
 use Rattle.fast.proofs.Carried.{carried-none, carried-more}
 use Rattle.fast.proofs.steps.copies.carry_from.Needs as need
 

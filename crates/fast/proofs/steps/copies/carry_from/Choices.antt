@@ -1,8 +1,8 @@
 use Prim.Native.Nat.{_≤_, _-_, _+_}
 use Rattle.scheme.specs.Steps.{transfer}
 use Rattle.scheme.specs.Work.{each}
-use Rattle.fast.specs.Meaning.{view-of}
 use Rattle.fast.specs.Leaves.{at, fresh-view, Copied}
+use Rattle.fast.specs.Meaning.{view-of}
 use Rattle.fast.proofs.steps.copies.carry_from.Given as given
 
 abbrev pub Inv-loop-o : given.InvT-loop-o

@@ -2,8 +2,8 @@ use mathlib.Core.Path.{_∙_, ap}
 use native.Mathlib.Omega.{arith}
 use Rattle.std.specs.Of.Vec.{vec-items}
 use Rattle.flash.specs.Calls.{erased}
-use Rattle.fast.specs.Meaning.{view-of}
 use Rattle.fast.specs.Leaves.{fresh-view}
+use Rattle.fast.specs.Meaning.{view-of}
 use Rattle.fast.proofs.Carried.{merged-front}
 use Rattle.fast.proofs.steps.merges.merge_free.Needs as need
 

@@ -1,9 +1,9 @@
 use mathlib.Core.Path.{_∙_, ap}
 use native.Mathlib.Omega.{arith}
 use Rattle.flash.specs.Calls.{erased}
-use Rattle.fast.specs.Meaning.{view-of}
-use Rattle.fast.specs.Leaves.{fresh-view}
 use Rattle.scheme.specs.Roles.{finished}
+use Rattle.fast.specs.Leaves.{fresh-view}
+use Rattle.fast.specs.Meaning.{view-of}
 use Rattle.fast.proofs.Carried.{merged-one}
 use Rattle.fast.proofs.steps.merges.merge_sw.Needs as need
 

@@ -1,6 +1,6 @@
 use mathlib.Core.Path.{refl, sym}
-use Rattle.fast.specs.Meaning.{view-of}
 use Rattle.fast.specs.Leaves.{at, fresh-view}
+use Rattle.fast.specs.Meaning.{view-of}
 use Rattle.fast.proofs.Carried.{settles-owned, settles-free}
 use Rattle.fast.proofs.steps.merges.settle.Needs as need
 

@@ -1,16 +1,16 @@
 use Prim.Native.Nat.{_*_, _/_, _%_, _<_}
+use lib.ListN.{length, getD}
 use mathlib.Core.Path.{_≡_, _∙_, ap, ap₂, sym}
 use native.Mathlib.Omega.{arith}
-use lib.ListN.{length, getD}
 use Rattle.std.specs.Of.Vec.{vec-items, vec-len}
 use Rattle.flash.specs.Meaning.{holds}
 use Rattle.scheme.specs.Work.{put-page}
-use Rattle.fast.specs.Views.{numbers, entries-view}
 use Rattle.fast.specs.Meaning.{view-of}
+use Rattle.fast.specs.Views.{numbers, entries-view}
 use Rattle.fast.proofs.Counts.{getD-numbers}
 use Rattle.fast.proofs.Entries.{length-views}
-use Rattle.fast.proofs.Rooms.{appended}
 use Rattle.fast.proofs.Measures.{in-block}
+use Rattle.fast.proofs.Rooms.{appended}
 use Rattle.fast.proofs.steps.writes.append_rw.Needs as need
 
 pub index-block-requires : need.index-block-requires

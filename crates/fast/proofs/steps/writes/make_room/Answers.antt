@@ -1,14 +1,14 @@
 use Prim.Native.Nat.{_*_, _<_, _≤_}
+use lib.ListN.{length}
 use mathlib.Core.Path.{refl, _∙_, ap, sym}
 use native.Mathlib.Omega.{arith}
-use lib.ListN.{length}
 use Rattle.std.specs.Of.Vec.{vec-items}
-use Rattle.fast.specs.Views.{numbers, entries-view}
-use Rattle.fast.specs.Meaning.{view-of}
 use Rattle.fast.specs.Leaves.{at}
+use Rattle.fast.specs.Meaning.{view-of}
+use Rattle.fast.specs.Views.{numbers, entries-view}
+use Rattle.fast.proofs.Counts.{busy-few}
 use Rattle.fast.proofs.Entries.{length-views}
 use Rattle.fast.proofs.Rooms.{length-numbers, room-already, room-made}
-use Rattle.fast.proofs.Counts.{busy-few}
 use Rattle.fast.proofs.steps.writes.make_room.Needs as need
 
 pub returns-then-len-tables : need.returns-then-len-tables

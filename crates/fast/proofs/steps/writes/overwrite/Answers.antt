@@ -1,8 +1,8 @@
 use mathlib.Core.Path.{sym}
 use Rattle.flash.specs.Meaning.{holds}
-use Rattle.fast.specs.Views.{sequential-of}
-use Rattle.fast.specs.Meaning.{view-of}
 use Rattle.fast.specs.Leaves.{at}
+use Rattle.fast.specs.Meaning.{view-of}
+use Rattle.fast.specs.Views.{sequential-of}
 use Rattle.fast.proofs.Accepted.{over-start, over-owned, over-random}
 use Rattle.fast.proofs.steps.writes.overwrite.Needs as need
 

@@ -1,17 +1,17 @@
 use Prim.Native.Nat.{_*_, _<_, _≤_}
-use mathlib.Core.Path.{_∙_, ap}
-use mathlib.Core.List.{_∷_, [], _++_}
-use native.Mathlib.Omega.{arith}
-use native.Mathlib.Nat.{mul-le-mul-left}
 use lib.ListN.{length, getD, drop}
+use mathlib.Core.List.{_∷_, [], _++_}
+use mathlib.Core.Path.{_∙_, ap}
+use native.Mathlib.Nat.{mul-le-mul-left}
+use native.Mathlib.Omega.{arith}
 use Rattle.std.specs.Of.Vec.{vec-items, vec-len}
 use Rattle.flash.specs.Calls.{erased}
 use Rattle.scheme.specs.Tables.{with-random, with-free}
-use Rattle.fast.specs.Views.{numbers}
-use Rattle.fast.specs.Meaning.{view-of}
 use Rattle.fast.specs.Leaves.{at}
-use Rattle.fast.proofs.Rooms.{length-numbers, reclaimed}
+use Rattle.fast.specs.Meaning.{view-of}
+use Rattle.fast.specs.Views.{numbers}
 use Rattle.fast.proofs.Measures.{pages-of}
+use Rattle.fast.proofs.Rooms.{length-numbers, reclaimed}
 use Rattle.fast.proofs.steps.writes.reclaim.Needs as need
 
 pub visit-all-tables-requires : need.visit-all-tables-requires

@@ -1,6 +1,6 @@
 use mathlib.Core.Path.{refl}
-use Rattle.fast.specs.Meaning.{view-of}
 use Rattle.fast.specs.Leaves.{at}
+use Rattle.fast.specs.Meaning.{view-of}
 use Rattle.fast.proofs.Starts.{settles-owner}
 use Rattle.fast.proofs.steps.writes.settle_owner.Needs as need
 

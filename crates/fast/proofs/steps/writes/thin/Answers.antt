@@ -1,13 +1,13 @@
 use Prim.Native.Nat.{_*_, _<_, _≤_}
+use lib.ListN.{length}
 use mathlib.Core.Path.{refl, ap}
 use native.Mathlib.Omega.{arith}
-use lib.ListN.{length}
 use Rattle.std.specs.Of.Vec.{vec-items, vec-len}
-use Rattle.fast.specs.Views.{numbers}
-use Rattle.fast.specs.Meaning.{view-of}
 use Rattle.fast.specs.Leaves.{at}
-use Rattle.fast.proofs.Rooms.{length-numbers, thin-already, thin-now}
+use Rattle.fast.specs.Meaning.{view-of}
+use Rattle.fast.specs.Views.{numbers}
 use Rattle.fast.proofs.Measures.{pages-of, random-of}
+use Rattle.fast.proofs.Rooms.{length-numbers, thin-already, thin-now}
 use Rattle.fast.proofs.steps.writes.thin.Needs as need
 
 pub returns-then-len-tables : need.returns-then-len-tables

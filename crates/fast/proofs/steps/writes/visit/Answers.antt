@@ -1,12 +1,12 @@
-use mathlib.Core.Path.{refl}
 use Prim.Native.Nat.{_<_}
-use native.Mathlib.Omega.{arith}
 use lib.ListN.{length}
+use mathlib.Core.Path.{refl}
+use native.Mathlib.Omega.{arith}
 use Rattle.std.specs.Of.Vec.{vec-items}
-use Rattle.fast.specs.declared.tables.random.Entry.the-variants.{Live, Stale}
-use Rattle.fast.specs.Views.{entries-view}
-use Rattle.fast.specs.Meaning.{view-of}
 use Rattle.fast.specs.Leaves.{at}
+use Rattle.fast.specs.Meaning.{view-of}
+use Rattle.fast.specs.Views.{entries-view}
+use Rattle.fast.specs.declared.tables.random.Entry.the-variants.{Live, Stale}
 use Rattle.fast.proofs.Visited.{view-at, live-known, visits-live, visits-stale}
 use Rattle.fast.proofs.steps.writes.visit.Needs as need
 

@@ -1,10 +1,10 @@
 use mathlib.Core.Path.{refl, _∙_, ap, subst}
 use native.Mathlib.Omega.{arith}
 use Rattle.scheme.specs.Steps.{visit}
-use Rattle.fast.specs.Meaning.{view-of}
 use Rattle.fast.specs.Leaves.{at, Left}
-use Rattle.fast.proofs.Visited.{each-none, each-more}
+use Rattle.fast.specs.Meaning.{view-of}
 use Rattle.fast.proofs.Measures.{pages-of}
+use Rattle.fast.proofs.Visited.{each-none, each-more}
 use Rattle.fast.proofs.steps.writes.visit_all.Needs as need
 
 pub loop-i-holds : need.loop-i-holds

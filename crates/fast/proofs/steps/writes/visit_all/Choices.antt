@@ -1,8 +1,8 @@
 use Prim.Native.Nat.{_≤_, _*_}
 use Rattle.scheme.specs.Steps.{visit}
 use Rattle.scheme.specs.Work.{each}
-use Rattle.fast.specs.Meaning.{view-of, Sized, Logged}
 use Rattle.fast.specs.Leaves.{at, Left}
+use Rattle.fast.specs.Meaning.{view-of, Sized, Logged}
 use Rattle.fast.proofs.steps.writes.visit_all.Given as given
 
 abbrev pub Inv-loop-i : given.InvT-loop-i

@@ -1,9 +1,9 @@
 use Prim.Native.Nat.{_/_, _<_}
 use mathlib.Core.Path.{_∙_, sym}
-use native.Mathlib.Omega.{arith}
 use native.Mathlib.Nat.{div-lt-iff-lt-mul, mod-lt}
-use Rattle.fast.specs.Meaning.{view-of}
+use native.Mathlib.Omega.{arith}
 use Rattle.fast.specs.Leaves.{at}
+use Rattle.fast.specs.Meaning.{view-of}
 use Rattle.fast.proofs.Accepted.{blank-written, used-written}
 use Rattle.fast.proofs.steps.writes.write_accepted.Needs as need
 

@@ -1,13 +1,13 @@
 use Prim.Native.Nat.{_<_}
+use lib.ListN.{length}
 use mathlib.Core.Path.{_∙_, ap}
 use native.Mathlib.Omega.{arith}
-use lib.ListN.{length}
 use Rattle.std.specs.Of.Vec.{vec-items}
 use Rattle.flash.specs.Meaning.{holds}
 use Rattle.scheme.specs.Work.{put-page}
 use Rattle.fast.specs.Meaning.{view-of}
-use Rattle.fast.proofs.Counts.{getD-numbers}
 use Rattle.fast.proofs.Accepted.{first-written}
+use Rattle.fast.proofs.Counts.{getD-numbers}
 use Rattle.fast.proofs.steps.writes.write_first.Needs as need
 
 pub returns : need.returns

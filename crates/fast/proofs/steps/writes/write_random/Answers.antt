@@ -1,10 +1,10 @@
 use mathlib.Core.Path.{_∙_, ap, subst}
 use Rattle.flash.specs.Meaning.{holds}
 use Rattle.scheme.specs.Steps.{append-random}
-use Rattle.fast.specs.Meaning.{view-of}
 use Rattle.fast.specs.Leaves.{at, Left}
-use Rattle.fast.proofs.Rooms.{random-written}
+use Rattle.fast.specs.Meaning.{view-of}
 use Rattle.fast.proofs.Measures.{pages-of}
+use Rattle.fast.proofs.Rooms.{random-written}
 use Rattle.fast.proofs.steps.writes.write_random.Needs as need
 
 pub returns : need.returns

@@ -1,7 +1,7 @@
 use Rattle.flash.specs.Meaning.{holds}
-use Rattle.fast.specs.Views.{sequential-of}
-use Rattle.fast.specs.Meaning.{view-of}
 use Rattle.fast.specs.Leaves.{at}
+use Rattle.fast.specs.Meaning.{view-of}
+use Rattle.fast.specs.Views.{sequential-of}
 use Rattle.fast.proofs.Rooms.{next-written, past-written, back-written}
 use Rattle.fast.proofs.steps.writes.write_sequential.Needs as need
 

@@ -1,10 +1,10 @@
 use mathlib.Core.Path.{_∙_, ap, subst}
 use Rattle.flash.specs.Meaning.{holds}
 use Rattle.scheme.specs.Steps.{open-sequential}
-use Rattle.fast.specs.Meaning.{view-of}
 use Rattle.fast.specs.Leaves.{at, Left}
-use Rattle.fast.proofs.Rooms.{start-written}
+use Rattle.fast.specs.Meaning.{view-of}
 use Rattle.fast.proofs.Measures.{pages-of}
+use Rattle.fast.proofs.Rooms.{start-written}
 use Rattle.fast.proofs.steps.writes.write_start.Needs as need
 
 pub returns : need.returns

@@ -1,12 +1,12 @@
-use borrow.Author.Needs.{needs}
 use Prim.Native.Nat.{_<_, _/_}
-use mathlib.Core.Path.{_≡_, refl, ap}
-use native.Mathlib.Omega.{arith}
 use lib.Dec.{eqb}
 use lib.ListN.{length}
+use mathlib.Core.Path.{_≡_, refl, ap}
+use native.Mathlib.Omega.{arith}
+use borrow.Author.Needs.{needs}
 use Rattle.std.specs.Of.Vec.{vec-items, vec-len}
-use Rattle.fast.specs.Views.{entries-view}
 use Rattle.fast.specs.Rules.{live-entries, busy, owner-of}
+use Rattle.fast.specs.Views.{entries-view}
 use Rattle.fast.proofs.Counts.{getD-numbers, live-stale, adopted-roles, adopted-led, adopted-view}
 use Rattle.fast.proofs.tables.Tables.adopt.Needs as need
 

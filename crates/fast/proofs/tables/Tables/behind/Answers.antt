@@ -1,14 +1,14 @@
 use Prim.Native.Nat.{_+_, _*_, _/_, _<_}
+use lib.ListN.{length}
 use mathlib.Core.Path.{_∙_, ap}
 use native.Mathlib.Omega.{arith}
-use lib.ListN.{length}
 use Rattle.std.specs.Of.Vec.{vec-items, vec-len}
 use Rattle.scheme.specs.Place.{Place, entry-of}
-use Rattle.fast.specs.Views.{entries-view}
 use Rattle.fast.specs.Meaning.{view-of}
+use Rattle.fast.specs.Views.{entries-view}
 use Rattle.fast.proofs.Counts.{getD-numbers}
-use Rattle.fast.proofs.Places.{behind-random, behind-data}
 use Rattle.fast.proofs.Measures.{in-block}
+use Rattle.fast.proofs.Places.{behind-random, behind-data}
 use Rattle.fast.proofs.tables.Tables.behind.Needs as need
 
 pub index-requires : need.index-requires

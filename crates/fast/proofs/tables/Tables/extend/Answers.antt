@@ -1,14 +1,14 @@
-use borrow.Author.Needs.{needs}
+use lib.Dec.{eqb}
 use mathlib.Core.Path.{ap}
 use native.Mathlib.Omega.{arith}
-use lib.Dec.{eqb}
+use borrow.Author.Needs.{needs}
 use Rattle.std.specs.Of.Vec.{vec-items, vec-len}
 use Rattle.std.specs.declared.option.Option.the-variants.{Some}
-use Rattle.fast.specs.Views.{numbers, entries-view}
-use Rattle.fast.specs.Rules.{live-entries, busy, owner-of, same, uses, uses-sw}
 use Rattle.flash.specs.declared.numbers.Block.{Block}
-use Rattle.fast.specs.declared.numbers.LogicalBlock.{LogicalBlock}
 use Rattle.fast.specs.Meaning.{view-of}
+use Rattle.fast.specs.Rules.{live-entries, busy, owner-of, same, uses, uses-sw}
+use Rattle.fast.specs.Views.{numbers, entries-view}
+use Rattle.fast.specs.declared.numbers.LogicalBlock.{LogicalBlock}
 use Rattle.fast.proofs.Counts.{live-stale}
 use Rattle.fast.proofs.tables.Tables.extend.Needs as need
 

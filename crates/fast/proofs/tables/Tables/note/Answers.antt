@@ -1,14 +1,14 @@
-use borrow.Author.Needs.{needs}
 use Prim.Native.Nat.{_≤_, _*_}
-use mathlib.Core.Path.{_∙_, ap}
 use mathlib.Core.List.{_++_, _∷_, []}
-use native.Mathlib.Omega.{arith}
+use mathlib.Core.Path.{_∙_, ap}
 use native.Mathlib.Nat.{mul-le-mul-left}
+use native.Mathlib.Omega.{arith}
+use borrow.Author.Needs.{needs}
 use Rattle.std.specs.Of.Vec.{vec-items, vec-len}
 use Rattle.scheme.specs.Tables.{live}
-use Rattle.fast.specs.Views.{numbers, entries-view}
-use Rattle.fast.specs.Rules.{uses}
 use Rattle.fast.specs.Meaning.{view-of}
+use Rattle.fast.specs.Rules.{uses}
+use Rattle.fast.specs.Views.{numbers, entries-view}
 use Rattle.fast.proofs.Counts.{noted-live}
 use Rattle.fast.proofs.tables.Tables.note.Needs as need
 

@@ -1,8 +1,8 @@
-use borrow.Author.Needs.{needs}
+use lib.ListN.{getD}
 use mathlib.Core.List.{[], _∷_}
 use mathlib.Core.Path.{sym, subst}
 use native.Mathlib.Omega.{arith}
-use lib.ListN.{getD}
+use borrow.Author.Needs.{needs}
 use Rattle.std.specs.Of.Vec.{vec-items}
 use Rattle.std.specs.declared.option.Option.the-variants.{Some}
 use Rattle.scheme.specs.Roles.{Led, taken-as-sequential}

@@ -1,7 +1,7 @@
 use mathlib.Core.Path.{_∙_, ap, sym}
 use Rattle.scheme.specs.Place.{Place}
-use Rattle.fast.specs.Views.{sw-view}
 use Rattle.fast.specs.Meaning.{view-of}
+use Rattle.fast.specs.Views.{sw-view}
 use Rattle.fast.proofs.Places.{place-none, place-other, place-here}
 use Rattle.fast.proofs.tables.Tables.place.Needs as need
 

@@ -1,13 +1,13 @@
-use borrow.Author.Needs.{needs}
 use Prim.Native.Nat.{_<_, _/_}
-use mathlib.Core.Path.{_∙_, ap}
-use mathlib.Core.List.{_++_, _∷_, []}
-use native.Mathlib.Omega.{arith}
 use lib.Dec.{eqb}
 use lib.ListN.{length}
+use mathlib.Core.List.{_++_, _∷_, []}
+use mathlib.Core.Path.{_∙_, ap}
+use native.Mathlib.Omega.{arith}
+use borrow.Author.Needs.{needs}
 use Rattle.std.specs.Of.Vec.{vec-items, vec-len}
-use Rattle.fast.specs.Views.{entries-view}
 use Rattle.fast.specs.Rules.{live-entries}
+use Rattle.fast.specs.Views.{entries-view}
 use Rattle.fast.proofs.Counts.{getD-numbers, renewed-roles, renewed-led, renewed-view, live-stale}
 use Rattle.fast.proofs.tables.Tables.renew.Needs as need
 

@@ -1,13 +1,13 @@
-use borrow.Author.Needs.{needs}
 use Prim.Native.Nat.{_<_, _/_}
-use mathlib.Core.Path.{_≡_, _∙_, ap}
-use mathlib.Core.List.{_++_, _∷_, []}
-use native.Mathlib.Omega.{arith}
 use lib.Dec.{eqb}
 use lib.ListN.{length}
+use mathlib.Core.List.{_++_, _∷_, []}
+use mathlib.Core.Path.{_≡_, _∙_, ap}
+use native.Mathlib.Omega.{arith}
+use borrow.Author.Needs.{needs}
 use Rattle.std.specs.Of.Vec.{vec-items, vec-len}
-use Rattle.fast.specs.Views.{entries-view}
 use Rattle.fast.specs.Rules.{live-entries, busy, owner-of}
+use Rattle.fast.specs.Views.{entries-view}
 use Rattle.fast.proofs.Counts.{getD-numbers, live-stale, replaced-roles, replaced-led, replaced-view}
 use Rattle.fast.proofs.tables.Tables.replace.Needs as need
 

@@ -1,12 +1,12 @@
-use borrow.Author.Needs.{needs}
 use Prim.Native.Nat.{_<_, _*_, _-_}
+use lib.ListN.{length, length-drop}
 use mathlib.Core.Path.{_≡_, _∙_, ap}
 use native.Mathlib.Omega.{arith}
-use lib.ListN.{length, length-drop}
+use borrow.Author.Needs.{needs}
 use Rattle.std.specs.Of.Vec.{vec-items, vec-len}
-use Rattle.fast.specs.Views.{numbers, entries-view}
-use Rattle.fast.specs.Rules.{live-entries}
 use Rattle.fast.specs.Meaning.{view-of}
+use Rattle.fast.specs.Rules.{live-entries}
+use Rattle.fast.specs.Views.{numbers, entries-view}
 use Rattle.fast.proofs.Counts.{live-drop, moved, numbers-moved, numbers-rest, retired-led}
 use Rattle.fast.proofs.Entries.{views-drop}
 use Rattle.fast.proofs.tables.Tables.retire.Needs as need

@@ -1,12 +1,12 @@
-use borrow.Author.Needs.{needs}
 use Prim.Native.Nat.{_<_, _*_}
+use lib.ListN.{length}
 use mathlib.Core.Path.{_∙_, ap}
 use native.Mathlib.Omega.{arith}
-use lib.ListN.{length}
+use borrow.Author.Needs.{needs}
 use Rattle.std.specs.Of.Vec.{vec-items, vec-len}
-use Rattle.fast.specs.Views.{numbers, entries-view}
-use Rattle.fast.specs.Rules.{live-entries}
 use Rattle.fast.specs.Meaning.{view-of}
+use Rattle.fast.specs.Rules.{live-entries}
+use Rattle.fast.specs.Views.{numbers, entries-view}
 use Rattle.fast.proofs.Counts.{moved, numbers-moved, numbers-rest, logged-led}
 use Rattle.fast.proofs.tables.Tables.take_log.Needs as need
 

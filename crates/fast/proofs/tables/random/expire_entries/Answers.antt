@@ -1,8 +1,8 @@
-use mathlib.Core.Path.{_∙_, ap}
 use mathlib.Core.List.{map}
+use mathlib.Core.Path.{_∙_, ap}
 use native.Mathlib.Omega.{arith}
-use Rattle.std.proofs.shelf.Lists.{getD-default}
 use Rattle.std.proofs.shelf.Edits.{map-over-more}
+use Rattle.std.proofs.shelf.Lists.{getD-default}
 use Rattle.fast.specs.Views.{entry-view, expired-entry}
 use Rattle.fast.proofs.Entries.{views-expired, mapped-all}
 use Rattle.fast.proofs.tables.random.expire_entries.Needs as need

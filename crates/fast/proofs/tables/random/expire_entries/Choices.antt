@@ -1,6 +1,6 @@
-use mathlib.Core.Path.{_≡_}
-use mathlib.Core.List.{_++_, map}
 use lib.ListN.{take, drop}
+use mathlib.Core.List.{_++_, map}
+use mathlib.Core.Path.{_≡_}
 use Rattle.fast.specs.Views.{expired-entry}
 use Rattle.fast.proofs.tables.random.expire_entries.Given as given
 

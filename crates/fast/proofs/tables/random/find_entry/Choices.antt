@@ -1,5 +1,5 @@
-use mathlib.Core.Path.{_≡_}
 use lib.ListN.{drop}
+use mathlib.Core.Path.{_≡_}
 use Rattle.scheme.specs.Place.{entry-of}
 use Rattle.fast.specs.Views.{entries-view}
 use Rattle.fast.proofs.tables.random.find_entry.Given as given

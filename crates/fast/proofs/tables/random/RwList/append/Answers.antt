@@ -1,7 +1,7 @@
 use mathlib.Core.Path.{refl, _∙_, ap}
 use Rattle.std.specs.Of.Vec.{vec-items}
-use Rattle.fast.specs.declared.tables.random.Entry.the-variants.{Live}
 use Rattle.fast.specs.Views.{entries-view}
+use Rattle.fast.specs.declared.tables.random.Entry.the-variants.{Live}
 use Rattle.fast.proofs.Entries.{views-push}
 use Rattle.fast.proofs.tables.random.RwList.append.Needs as need
 

@@ -1,7 +1,7 @@
 use Prim.Native.Nat.{_<_, _-_}
+use lib.ListN.{length, take}
 use mathlib.Core.Path.{_≡_, _∙_, ap}
 use native.Mathlib.Omega.{arith}
-use lib.ListN.{length, take}
 use Rattle.std.specs.Of.Vec.{vec-items}
 use Rattle.fast.proofs.Counts.{getD-numbers}
 use Rattle.fast.proofs.Entries.{rotated}
