@@ -17,7 +17,7 @@ use Rattle.std.proofs.shelf.Tests.{cases-bool, cases-lt, cases-eq, ltb-true, lt
 use Rattle.flash.specs.Meaning.{Flash, blank}
 use Rattle.scheme.specs.Asks.{Sound, Unrefused}
 use Rattle.scheme.specs.Functions.{sum-below, some-below, upd}
-use Rattle.scheme.specs.Law.{told, all-told, erases, Call-counted, Roles-right, Law, Every-run-is-lawful, Every-call-is-lawful}
+use Rattle.scheme.specs.Law.{told, all-told, erases, Call-counted, Roles-right, Roles-kept, Law, Every-run-is-lawful, Every-call-is-lawful}
 use Rattle.scheme.specs.Ledger.{Call, read, write, refused, wrote, Reply, Ledger, shown, reads, empty, entered, ledger-next, ledger-after, Answered, All-answered}
 use Rattle.scheme.specs.Place.{place}
 use Rattle.scheme.specs.Roles.{Tables-right, led, role-of}
@@ -39,7 +39,7 @@ pub record Kept (P L : ℕ) (y : Layer) (g : Ledger) (E : ℕ) (cs : List Call) 
   pub answers : All-answered g cs (replies-of y cs)
   pub asks : All (λ (t : Turn). All (Sound (t .before .pages) (t .before .logical)) (t .outcome .asked)) (turns y cs)
   pub accepted : All (λ (t : Turn). All Unrefused (t .outcome .asked)) (turns y cs)
-  pub roles : 0 < L → All Roles-right (turns y cs)
+  pub roles : 0 < L → All Roles-kept (turns y cs)
   pub counted : erases (last-layer y cs) ≡ erases y + all-told (replies-of y cs)
   pub bounded : P * (E + all-told (replies-of y cs)) ≤ (P + 1) * ledger-after g cs (replies-of y cs) .overwrites
   pub each : All Call-counted (turns y cs)
@@ -49,7 +49,7 @@ record Kept-call (P L : ℕ) (y : Layer) (g : Ledger) (E : ℕ) (c : Call) (cs :
   right : Answered g c (o .reply)
   asked : All (Sound (y .pages) (y .logical)) (o .asked)
   allowed : All Unrefused (o .asked)
-  role : 0 < L → Roles-right (record { before = y; outcome = o })
+  role : 0 < L → Roles-kept (record { before = y; outcome = o })
   count : erases (o .after) ≡ erases y + told (o .reply .answer)
   few : told (o .reply .answer) ≤ most-erases y
   rest : Kept P L (o .after) (ledger-next g c (o .reply .answer)) (E + told (o .reply .answer)) cs
@@ -203,13 +203,12 @@ module _ (P L R B : ℕ) (pos : 1 < P) (some-L : 0 < L) (some-R : 0 < R) (wide :
       (omega (arith, r .blocks, place-inside P L R B (r .inv .role) (s .tables) pos₀ (r .inv .roles) c o known))
       (omega (arith, r .pages, place-page P L R B (r .inv .role) (s .tables) pos₀ (r .inv .roles) c o (mod-lt n pos₀)))
 
-  -- the roles after a call that changes nothing
-  still : (s : State) (g : Ledger) (E : ℕ) → Running s g E → (q : Reply) → Roles-right (record { before = lay s; outcome = unchanged (lay s) q })
-  still s g E r q =
+  -- the roles on the way
+  stands : (s : State) (g : Ledger) (E : ℕ) → Running s g E → Roles-right (lay s)
+  stands s g E r =
       record {
         right = subst (λ n. Tables-right P L R n (s .tables)) (sym (r .blocks)) (tables-right P L R B (r .inv .role) (s .tables) (r .inv .roles));
         free-blank = r .inv .held .free-blank;
-        led = λ b i. refl;
       }
 
   runs : (cs : List Call) (s : State) (g : Ledger) (E : ℕ) → Running s g E → Kept P L (lay s) g E cs
@@ -225,7 +224,7 @@ module _ (P L R B : ℕ) (pos : 1 < P) (some-L : 0 < L) (some-R : 0 < R) (wide :
             (λ h. ap line (shows s g E r n (omega (arith, r .size))) ∙ r .inv .held .view (n / P) (n % P) (div-lt-iff-lt-mul pos₀ .1 (omega (arith, r .size))) (mod-lt n pos₀) ∙ ap (g .line) (div-add-mod' n P));
         asked = tt;
         allowed = tt;
-        role = λ _. still s g E r (reads (L * P) (content (lay s)) n buffer);
+        role = λ _. record { right = stands s g E r; led = λ b i. refl };
         count = omega (arith, none);
         few = omega (arith, none);
         rest = subst (λ e. Kept P L (lay s) g e cs) (omega (arith, none)) (runs cs s g E r);
@@ -239,7 +238,7 @@ module _ (P L R B : ℕ) (pos : 1 < P) (some-L : 0 < L) (some-R : 0 < R) (wide :
               right = refl;
               asked = tt;
               allowed = tt;
-              role = λ _. still s g E r (record { answer = refused m; buffer = bytes });
+              role = λ _. record { right = stands s g E r; led = λ b i. refl };
               count = omega arith;
               few = omega arith;
               rest = subst (λ e. Kept P L (lay s) g e cs) (omega arith) (runs cs s g E r);
@@ -250,28 +249,27 @@ module _ (P L R B : ℕ) (pos : 1 < P) (some-L : 0 < L) (some-R : 0 < R) (wide :
             let spare = spares s g E r n bytes e (w .e) (w .few) in
             let d = w .does .when (record { blocks = r .blocks; pages = r .pages; small = small; marks = r .marks; spare = spare }) in
             let most : w .e ≤ min P L + 1 = capped (isSome (g .line n)) (w .e) (min P L + 1) (w .few) in
-            let kept : o .after .flash .blocks ≡ B = ap (λ (x : State). x .flash .blocks) (d .ends) ∙ d .wears .same-blocks ∙ r .blocks in
+            let later : Running (o .after) (entered g n bytes) (E + o .erases) =
+            record {
+              inv = subst (Inv P L R B (upd (g .line) n (Some bytes))) (sym (d .ends)) (w .inv);
+              blocks = ap (λ (x : State). x .flash .blocks) (d .ends) ∙ d .wears .same-blocks ∙ r .blocks;
+              size = r .size;
+              wear = omega (arith, w .wear, r .wear, ap (λ k. P * k) (d .counts), ap (λ (x : State). charge P (x .tables)) (d .ends));
+              pages = ap (λ (x : State). x .flash .pages) (d .ends) ∙ d .wears .same-pages ∙ r .pages;
+              marks = subst (λ (x : State). Marks (L * P) B (x .flash)) (sym (d .ends)) (d .marks);
+              young = λ b i. subst (λ (x : State). x .flash .count b ≤ x .flash .life) (sym (d .ends)) (omega (arith, d .wears .each-block b, spare b i, d .wears .same-life));
+            } in
             record {
               right = refl;
               asked = d .sound;
               allowed = all-weaker Allowed Unrefused unrefused (o .asked) (d .allowed);
               role = λ _. record {
-                right = subst (λ k. Tables-right P L R k (o .after .tables)) (sym kept) (subst (λ (x : State). Tables-right P L R B (x .tables)) (sym (d .ends)) (tables-right P L R B (w .inv .role) (w .end .tables) (w .inv .roles)));
-                free-blank = subst (λ (x : State). All (λ b. (p : ℕ) → x .flash .page b p ≡ blank) (x .tables .free)) (sym (d .ends)) (w .inv .held .free-blank);
+                right = stands (o .after) (entered g n bytes) (E + o .erases) later;
                 led = λ b i. subst (λ (x : State). led b (o .changes) (role-of (s .tables) b) ≡ Some (role-of (x .tables) b)) (sym (d .ends)) (d .led b (omega (arith, r .blocks)));
               };
               count = ap (λ (x : State). total (x .flash)) (d .ends) ∙ grown B (s .flash) (w .end .flash) (w .e) (r .blocks) (d .wears) ∙ ap (λ k. total (s .flash) + k) (sym (d .counts));
               few = rw (d .counts) most;
-              rest = runs cs (o .after) (entered g n bytes) (E + o .erases)
-                  (record {
-                    inv = subst (Inv P L R B (upd (g .line) n (Some bytes))) (sym (d .ends)) (w .inv);
-                    blocks = kept;
-                    size = r .size;
-                    wear = omega (arith, w .wear, r .wear, ap (λ k. P * k) (d .counts), ap (λ (x : State). charge P (x .tables)) (d .ends));
-                    pages = ap (λ (x : State). x .flash .pages) (d .ends) ∙ d .wears .same-pages ∙ r .pages;
-                    marks = subst (λ (x : State). Marks (L * P) B (x .flash)) (sym (d .ends)) (d .marks);
-                    young = λ b i. subst (λ (x : State). x .flash .count b ≤ x .flash .life) (sym (d .ends)) (omega (arith, d .wears .each-block b, spare b i, d .wears .same-life));
-                  });
+              rest = runs cs (o .after) (entered g n bytes) (E + o .erases) later;
             }
       ])
       refl)
@@ -368,14 +366,15 @@ fits f L R e =
 
 lawful-from : (start : Start) (cs : List Call) → Kept (format start .pages) (format start .logical) (format start) (empty (format start .logical * format start .pages)) 0 cs
     → (let w = ledger-after (empty (format start .logical * format start .pages)) cs (replies-of (format start) cs) .overwrites in all-told (replies-of (format start) cs) ≤ w + w / format start .pages)
+    → (0 < format start .logical → Roles-right (format start))
     → Law start cs (replies-of (format start) cs)
-lawful-from start cs k b =
+lawful-from start cs k b right =
     record {
       replied = refl;
       answers = k .answers;
       asks = k .asks;
       unrefused = k .accepted;
-      roles = k .roles;
+      roles = λ h. (right h, k .roles h);
       counted = k .counted;
       bounded = b;
       each = k .each;
@@ -390,15 +389,16 @@ by-fit start q =
       | None ↦ record { pages = f .pages; logical = start .logical; random = start .random; state = formatted (start .logical) (start .first) f .after }
     ]
 
--- what is kept by a layer, and the bound on its erases
+-- what is kept by a layer, the bound on its erases, and the roles that it starts with
 record Borne (y : Layer) (cs : List Call) : Type 0 where
   kept : Kept (y .pages) (y .logical) y (empty (y .logical * y .pages)) 0 cs
   bound : let w = ledger-after (empty (y .logical * y .pages)) cs (replies-of y cs) .overwrites in all-told (replies-of y cs) ≤ w + w / y .pages
+  right : 0 < y .logical → Roles-right y
 
 bears : (start : Start) (cs : List Call) (q : Option ℕ) → fit (start .device) (start .logical) (start .random) ≡ q → Borne (by-fit start q) cs
 bears start cs (Some m) e =
     let k = idles (start .device) cs (empty (0 * 0)) refl in
-    record { kept = k .0; bound = omega (arith, k .1) }
+    record { kept = k .0; bound = omega (arith, k .1); right = λ h. absurd (omega arith) }
 bears start cs None e =
     let f = start .device in
     let P = f .pages in
@@ -422,13 +422,14 @@ bears start cs None e =
     record {
       kept = k;
       bound = part-more P _ _ pos (subst (λ n. P * n ≤ (P + 1) * ledger-after (empty (L * P)) cs (replies-of y cs) .overwrites) (omega arith) (k .bounded));
+      right = λ _. stands P L (start .random) (f .blocks) (h .pages) (h .some-L) (h .some-R) (h .wide) (h .small) s (empty (L * P)) 0 first;
     }
 
 pub every-run-is-lawful : Every-run-is-lawful
 unfolding format
 every-run-is-lawful start cs =
     let b : Borne (format start) cs = bears start cs (fit (start .device) (start .logical) (start .random)) refl in
-    lawful-from start cs (b .kept) (b .bound)
+    lawful-from start cs (b .kept) (b .bound) (b .right)
 
 pub last-push : (y : Layer) (cs : List Call) (c : Call) → last-layer y (cs ++ (c ∷ [])) ≡ call (last-layer y cs) c .after
 last-push y [] c = refl

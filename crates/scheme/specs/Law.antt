@@ -37,10 +37,14 @@ pub record Call-counted (t : Turn) : Type 0 where
   pub counted : erases (t .outcome .after) ≡ erases (t .before) + told (t .outcome .reply .answer)
   pub few : told (t .outcome .reply .answer) ≤ most-erases (t .before)
 
--- After a call each block has just one role, what is free is blank, and the call changed each role as the match of role and event allows.
-pub record Roles-right (t : Turn) : Type 0 where
-  pub right : let y = t .outcome .after in Tables-right (y .pages) (y .logical) (y .random) (y .state .flash .blocks) (y .state .tables)
-  pub free-blank : let s = t .outcome .after .state in All (λ b. (p : ℕ) → s .flash .page b p ≡ blank) (s .tables .free)
+-- Each block has just one role, and what is free is blank.
+pub record Roles-right (y : Layer) : Type 0 where
+  pub right : Tables-right (y .pages) (y .logical) (y .random) (y .state .flash .blocks) (y .state .tables)
+  pub free-blank : All (λ b. (p : ℕ) → y .state .flash .page b p ≡ blank) (y .state .tables .free)
+
+-- So it is after a call, and the call changed each role as the match of role and event allows.
+pub record Roles-kept (t : Turn) : Type 0 where
+  pub right : Roles-right (t .outcome .after)
   pub led : Led (t .before .state .flash .blocks) (t .before .state .tables) (t .outcome .changes) (t .outcome .after .state .tables)
 
 -- What holds of calls on a layer, with the replies that they got:
@@ -48,7 +52,8 @@ pub record Roles-right (t : Turn) : Type 0 where
 -- answers    every read's reply is the ledger's, buffer and all, and every write leaves its buffer alone;
 -- asks       every program is of a page that is blank then, and every erase of a block in which no sector's place lies then;
 -- unrefused  the device refuses none of them;
--- roles      on a layer that has sectors: one role for each block after every call, and no change that the match does not allow;
+-- roles      on a layer that has sectors: one role for each block after format and after every call, and no change that the match does
+--            not allow;
 -- counted    the erases that the writes told of are the growth of the device's counts since format;
 -- bounded    for w overwrites they are at most w + w div P;
 -- each       so it is call by call, and no call makes more than min P L + 1.
@@ -57,7 +62,7 @@ pub record Law (start : Start) (calls : List Call) (rs : List Reply) : Type 0 wh
   pub answers : All-answered (first-ledger start) calls rs
   pub asks : All (λ t. All (Sound (t .before .pages) (t .before .logical)) (t .outcome .asked)) (run start calls)
   pub unrefused : All (λ t. All Unrefused (t .outcome .asked)) (run start calls)
-  pub roles : 0 < format start .logical → All Roles-right (run start calls)
+  pub roles : 0 < format start .logical → Roles-right (format start) × All Roles-kept (run start calls)
   pub counted : erases (reached start calls) ≡ erases (format start) + all-told rs
   pub bounded : let w = overwrites start calls rs in all-told rs ≤ w + w / format start .pages
   pub each : All Call-counted (run start calls)
