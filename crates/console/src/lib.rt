@@ -1,0 +1,3 @@
+// Command lines over sectors, and the runner that carries them out.
+
+pub mod command;
