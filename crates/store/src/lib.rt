@@ -1,0 +1,5 @@
+// Sector stores: numbered sectors of 512 bytes, whatever keeps them.
+
+pub mod plain;
+pub mod spread;
+pub mod store;
