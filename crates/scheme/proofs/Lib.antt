@@ -17,3 +17,4 @@ pub mod Accepted
 pub mod Formats
 pub mod Runs
 pub mod Bench
+pub mod Reaches

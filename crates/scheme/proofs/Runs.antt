@@ -13,26 +13,26 @@ use Rattle.std.specs.declared.option.Option.the-variants.{Some, None}
 use Rattle.std.specs.declared.option.Option.{Option}
 use Rattle.std.specs.shelf.Lists.{All}
 use Rattle.std.proofs.shelf.Elements.{all-weaker}
-use Rattle.std.proofs.shelf.Tests.{cases-bool, cases-lt, cases-eq, ltb-true, ltb-false, leb-true, leb-false, le-ltb, lt-ltb, eqb-true, and-parts, and-from, or-parts}
-use Rattle.flash.specs.Meaning.{Flash, blank}
+use Rattle.std.proofs.shelf.Tests.{cases-bool, cases-lt, cases-eq, ltb-true, ltb-false, leb-true, leb-false, le-ltb, eqb-true, and-parts, or-parts}
+use Rattle.flash.specs.Meaning.{Flash}
 use Rattle.scheme.specs.Asks.{Sound, Unrefused}
 use Rattle.scheme.specs.Functions.{sum-below, some-below, upd}
 use Rattle.scheme.specs.Law.{told, all-told, erases, Call-counted, Roles-right, Roles-kept, Law, Every-run-is-lawful, Every-call-is-lawful}
 use Rattle.scheme.specs.Ledger.{Call, read, write, refused, wrote, Reply, Ledger, shown, reads, empty, entered, ledger-next, ledger-after, Answered, All-answered}
 use Rattle.scheme.specs.Place.{place}
 use Rattle.scheme.specs.Roles.{Tables-right, led, role-of}
-use Rattle.scheme.specs.Runs.{Start, Layer, Outcome, unchanged, call, write-refusal, replaces, worn, content, Turn, turns, last-layer, replies-of, most-erases, format, fit, geometry-fits, nothing}
+use Rattle.scheme.specs.Runs.{Start, Layer, sectors, Outcome, unchanged, call, write-refusal, replaces, worn, content, Turn, turns, last-layer, replies-of, most-erases, format, fit, geometry-fits, nothing}
 use Rattle.scheme.specs.Steps.{page-of, seen-of, formatted, write as write-steps}
 use Rattle.scheme.specs.Tables.{Tables}
 use Rattle.scheme.specs.Work.{State, line}
 use Rattle.scheme.proofs.Accepted.{writes}
 use Rattle.scheme.proofs.Formats.{formats, format-cleans}
 use Rattle.scheme.proofs.Held.{Inv}
-use Rattle.scheme.proofs.Overwrites.{charge}
+use Rattle.scheme.proofs.Overwrites.{Wrote, charge}
 use Rattle.scheme.proofs.Partition.{tables-right}
 use Rattle.scheme.proofs.Plain.{sees}
 use Rattle.scheme.proofs.Roles.{data-of, inside, place-inside, place-page}
-use Rattle.scheme.proofs.Works.{Marked, Wears, Marks, Allowed, unrefused}
+use Rattle.scheme.proofs.Works.{Marked, Done, Wears, Marks, Allowed, unrefused}
 
 -- what holds of the rest of a run, with E erases so far
 pub record Kept (P L : ℕ) (y : Layer) (g : Ledger) (E : ℕ) (cs : List Call) : Type 0 where
@@ -110,6 +110,36 @@ capped : (b : Bool) (e n : ℕ) → e ≤ cond b n 0 → e ≤ n
 capped true e n h = h
 capped false e n h = omega arith
 
+-- what is so of a write that is not refused: there is the sector, there are 512 bytes, no overwrite finds a block that it could wear out,
+-- and there is a stamp left
+pub record Admitted (y : Layer) (n : ℕ) (bytes : List ℕ) : Type 0 where
+  pub known : n < sectors y
+  pub whole : length bytes ≡ 512
+  pub unworn : replaces y n ≡ true → worn y ≡ false
+  pub stamped : eqb (y .state .tables .next) 0xFFFFFFFF ≡ false
+
+pub admitted : (y : Layer) (n : ℕ) (bytes : List ℕ) → write-refusal y n bytes ≡ None → Admitted y n bytes
+unfolding write-refusal
+admitted y n bytes e =
+    let t = passed (ltb n (sectors y)) (eqb (length bytes) 512) (replaces y n) (worn y) (eqb (y .state .tables .next) 0xFFFFFFFF) e in
+    record { known = ltb-true n (sectors y) (t .0); whole = eqb-true (length bytes) 512 (t .1); unworn = t .2; stamped = t .3 }
+  where
+    passed : (a b c d f : Bool)
+        → elim a as (λ _. Option ℕ) [
+          | false ↦ Some 13
+          | true ↦ elim b as (λ _. Option ℕ) [
+            | false ↦ Some 3
+            | true ↦ elim (c && d) as (λ _. Option ℕ) [ true ↦ Some 12 | false ↦ cond f (Some 14) None ]
+          ]
+        ] ≡ None → (a ≡ true) × (b ≡ true) × (c ≡ true → d ≡ false) × (f ≡ false)
+    passed false b c d f e = let z : _≡_ {A = ℕ} 0 1 = cc in absurd (omega arith)
+    passed true false c d f e = let z : _≡_ {A = ℕ} 0 1 = cc in absurd (omega arith)
+    passed true true true true f e = let z : _≡_ {A = ℕ} 0 1 = cc in absurd (omega arith)
+    passed true true true false true e = let z : _≡_ {A = ℕ} 0 1 = cc in absurd (omega arith)
+    passed true true true false false e = (refl, refl, λ _. refl, refl)
+    passed true true false d true e = let z : _≡_ {A = ℕ} 0 1 = cc in absurd (omega arith)
+    passed true true false d false e = (refl, refl, λ h. let z : _≡_ {A = ℕ} 0 1 = cc in absurd (omega arith), refl)
+
 module _ (P L R B : ℕ) (pos : 1 < P) (some-L : 0 < L) (some-R : 0 < R) (wide : L + R + 2 ≤ B) (small : L * P ≤ 0xFFFFFFFF) where
   abbrev lay : State → Layer
   lay s = record { pages = P; logical = L; random = R; state = s }
@@ -123,49 +153,16 @@ module _ (P L R B : ℕ) (pos : 1 < P) (some-L : 0 < L) (some-R : 0 < R) (wide :
     pub marks : Marks (L * P) B (s .flash)
     pub young : (b : ℕ) → b < B → s .flash .count b ≤ s .flash .life
 
-  accepted : (s : State) (n : ℕ) (bytes : List ℕ) → write-refusal (lay s) n bytes ≡ None → n < L * P
-  unfolding write-refusal
-  accepted s n bytes e =
-      elim (cases-bool (ltb n (L * P))) [
-        | inl h ↦ ltb-true n (L * P) h
-        | inr h ↦ let z : _≡_ {A = Option ℕ} (Some 13) None = rw (h, write-refusal) at e in let w : _≡_ {A = ℕ} 0 1 = cc in absurd (omega arith)
-      ]
-
-  -- and 512 bytes
-  sized : (s : State) (n : ℕ) (bytes : List ℕ) → write-refusal (lay s) n bytes ≡ None → length bytes ≡ 512
-  unfolding write-refusal
-  sized s n bytes e =
-      elim (cases-bool (eqb (length bytes) 512)) [
-        | inl h ↦ eqb-true (length bytes) 512 h
-        | inr h ↦
-            let i = lt-ltb n (L * P) (accepted s n bytes e) in
-            let z : _≡_ {A = Option ℕ} (Some 3) None = rw (i, h, write-refusal) at e in let w : _≡_ {A = ℕ} 0 1 = cc in absurd (omega arith)
-      ]
-
   pos₀ : 0 < P
   pos₀ = omega arith
 
-  -- an accepted overwrite finds no block that it could wear out
-  unworn : (s : State) (n : ℕ) (bytes : List ℕ) → write-refusal (lay s) n bytes ≡ None → replaces (lay s) n ≡ true → worn (lay s) ≡ false
-  unfolding write-refusal
-  unworn s n bytes e h =
-      elim (cases-bool (worn (lay s))) [
-        | inr w ↦ w
-        | inl w ↦ absurd (never (ltb n (L * P)) (eqb (length bytes) 512) (replaces (lay s) n && worn (lay s)) (and-from (replaces (lay s) n) (worn (lay s)) h w) e)
-      ]
-    where
-      never : (a b c : Bool) → c ≡ true
-          → elim a as (λ _. Option ℕ) [
-            | false ↦ Some 13
-            | true ↦ elim b as (λ _. Option ℕ) [
-              | false ↦ Some 3
-              | true ↦ elim c as (λ _. Option ℕ) [ true ↦ Some 12 | false ↦ cond (eqb (s .tables .next) 0xFFFFFFFF) (Some 14) None ]
-            ]
-          ] ≡ None → ⊥
-      never false b c h e = let z : _≡_ {A = ℕ} 0 1 = cc in omega arith
-      never true false c h e = let z : _≡_ {A = ℕ} 0 1 = cc in omega arith
-      never true true true h e = let z : _≡_ {A = ℕ} 0 1 = cc in omega arith
-      never true true false h e = let z : _≡_ {A = ℕ} 0 1 = cc in omega arith
+  -- a write replaces bytes just where the ledger has a line
+  pub replaces-line : (s : State) (g : Ledger) (E : ℕ) → Running s g E → (n : ℕ) → n < L * P → replaces (lay s) n ≡ isSome (g .line n)
+  replaces-line s g E r n h =
+      let known : n / P < L = div-lt-iff-lt-mul pos₀ .1 h in
+      let fits : n % P < P = mod-lt n pos₀ in
+      let data-in : s .tables .data-block (n / P) < s .flash .blocks = omega (arith, r .blocks, inside (r .inv .roles) (s .tables .data-block (n / P)) (data-of (n / P)) (r .inv .roles .data-role (n / P) known) (λ z. omega arith)) in
+      ap (λ x. isSome (line x)) (sees (s .flash) (s .tables .data-block (n / P)) (n % P) data-in (omega (arith, r .pages))) ∙ r .inv .held .behind (n / P) (n % P) known fits ∙ ap (λ k. isSome (g .line k)) (div-add-mod' n P)
 
   -- no block is worn out by the erases of an accepted write
   spares : (s : State) (g : Ledger) (E : ℕ) → Running s g E → (n : ℕ) (bytes : List ℕ) → write-refusal (lay s) n bytes ≡ None → (e : ℕ) → e ≤ cond (isSome (g .line n)) (min P L + 1) 0
@@ -175,11 +172,9 @@ module _ (P L R B : ℕ) (pos : 1 < P) (some-L : 0 < L) (some-R : 0 < R) (wide :
         | inr z ↦ let k : e ≤ 0 = rw z at h in omega (arith, r .young b i)
         | inl z ↦
             let k : e ≤ min P L + 1 = rw z at h in
-            let known : n / P < L = div-lt-iff-lt-mul pos₀ .1 (accepted s n bytes free) in
-            let fits : n % P < P = mod-lt n pos₀ in
-            let data-in : s .tables .data-block (n / P) < s .flash .blocks = omega (arith, r .blocks, inside (r .inv .roles) (s .tables .data-block (n / P)) (data-of (n / P)) (r .inv .roles .data-role (n / P) known) (λ z. omega arith)) in
-            let over : replaces (lay s) n ≡ true = ap (λ x. isSome (line x)) (sees (s .flash) (s .tables .data-block (n / P)) (n % P) data-in (omega (arith, r .pages))) ∙ r .inv .held .behind (n / P) (n % P) known (mod-lt n pos₀) ∙ ap (λ k. isSome (g .line k)) (div-add-mod' n P) ∙ z in
-            let q = none-below (s .flash .blocks) (λ b. ltb (s .flash .life) (s .flash .count b + (min P L + 1))) (unworn s n bytes free over) b (omega (arith, r .blocks)) in
+            let a = admitted (lay s) n bytes free in
+            let over : replaces (lay s) n ≡ true = replaces-line s g E r n (a .known) ∙ z in
+            let q = none-below (s .flash .blocks) (λ b. ltb (s .flash .life) (s .flash .count b + (min P L + 1))) (a .unworn over) b (omega (arith, r .blocks)) in
             omega (arith, ltb-false (s .flash .life) (s .flash .count b + (min P L + 1)) q)
       ]
 
@@ -203,12 +198,45 @@ module _ (P L R B : ℕ) (pos : 1 < P) (some-L : 0 < L) (some-R : 0 < R) (wide :
       (omega (arith, r .blocks, place-inside P L R B (r .inv .role) (s .tables) pos₀ (r .inv .roles) c o known))
       (omega (arith, r .pages, place-page P L R B (r .inv .role) (s .tables) pos₀ (r .inv .roles) c o (mod-lt n pos₀)))
 
+  -- and that has the ledger's line
+  pub has-line : (s : State) (g : Ledger) (E : ℕ) → Running s g E → (n : ℕ) → n < L * P → content (lay s) n ≡ g .line n
+  has-line s g E r n h =
+      ap line (shows s g E r n h) ∙ r .inv .held .view (n / P) (n % P) (div-lt-iff-lt-mul pos₀ .1 h) (mod-lt n pos₀) ∙ ap (g .line) (div-add-mod' n P)
+
   -- the roles on the way
   stands : (s : State) (g : Ledger) (E : ℕ) → Running s g E → Roles-right (lay s)
   stands s g E r =
       record {
         right = subst (λ n. Tables-right P L R n (s .tables)) (sym (r .blocks)) (tables-right P L R B (r .inv .role) (s .tables) (r .inv .roles));
         free-blank = r .inv .held .free-blank;
+      }
+
+  -- an accepted write: what it does, and that the run goes on from where it ends
+  pub record Accepts (s : State) (g : Ledger) (E n : ℕ) (bytes : List ℕ) : Type 0 where
+    pub write : Wrote P L R B (cond (isSome (g .line n)) (min P L + 1) 0) (upd (g .line) n (Some bytes)) s (write-steps P R n bytes s) ((P + 1) * cond (isSome (g .line n)) 1 0)
+    pub done : Done P L B s (write-steps P R n bytes s) (write .end) (write .e)
+    pub running : Running (write-steps P R n bytes s .after) (entered g n bytes) (E + write-steps P R n bytes s .erases)
+
+  pub accepts : (s : State) (g : Ledger) (E : ℕ) → Running s g E → (n : ℕ) (bytes : List ℕ) → write-refusal (lay s) n bytes ≡ None → Accepts s g E n bytes
+  accepts s g E r n bytes e =
+      let a = admitted (lay s) n bytes e in
+      let w = writes P L R B pos some-L some-R wide (g .line) s (r .inv) (r .blocks) (r .pages) n (a .known) bytes (a .whole) in
+      let o = write-steps P R n bytes s in
+      let spare = spares s g E r n bytes e (w .e) (w .few) in
+      let d = w .does .when (record { blocks = r .blocks; pages = r .pages; small = small; marks = r .marks; spare = spare }) in
+      record {
+        write = w;
+        done = d;
+        running =
+            record {
+              inv = subst (Inv P L R B (upd (g .line) n (Some bytes))) (sym (d .ends)) (w .inv);
+              blocks = ap (λ (x : State). x .flash .blocks) (d .ends) ∙ d .wears .same-blocks ∙ r .blocks;
+              size = r .size;
+              wear = omega (arith, w .wear, r .wear, ap (λ k. P * k) (d .counts), ap (λ (x : State). charge P (x .tables)) (d .ends));
+              pages = ap (λ (x : State). x .flash .pages) (d .ends) ∙ d .wears .same-pages ∙ r .pages;
+              marks = subst (λ (x : State). Marks (L * P) B (x .flash)) (sym (d .ends)) (d .marks);
+              young = λ b i. subst (λ (x : State). x .flash .count b ≤ x .flash .life) (sym (d .ends)) (omega (arith, d .wears .each-block b, spare b i, d .wears .same-life));
+            };
       }
 
   runs : (cs : List Call) (s : State) (g : Ledger) (E : ℕ) → Running s g E → Kept P L (lay s) g E cs
@@ -221,7 +249,7 @@ module _ (P L R B : ℕ) (pos : 1 < P) (some-L : 0 < L) (some-R : 0 < R) (wide :
         right =
             ap (λ k. reads k (content (lay s)) n buffer) (sym (r .size))
             ∙ same-read (g .size) (content (lay s)) (g .line) n buffer
-            (λ h. ap line (shows s g E r n (omega (arith, r .size))) ∙ r .inv .held .view (n / P) (n % P) (div-lt-iff-lt-mul pos₀ .1 (omega (arith, r .size))) (mod-lt n pos₀) ∙ ap (g .line) (div-add-mod' n P));
+            (λ h. has-line s g E r n (omega (arith, r .size)));
         asked = tt;
         allowed = tt;
         role = λ _. record { right = stands s g E r; led = λ b i. refl };
@@ -244,37 +272,30 @@ module _ (P L R B : ℕ) (pos : 1 < P) (some-L : 0 < L) (some-R : 0 < R) (wide :
               rest = subst (λ e. Kept P L (lay s) g e cs) (omega arith) (runs cs s g E r);
             }
         | None ↦ λ e.
-            let w = writes P L R B pos some-L some-R wide (g .line) s (r .inv) (r .blocks) (r .pages) n (accepted s n bytes e) bytes (sized s n bytes e) in
+            let a = accepts s g E r n bytes e in
+            let w = a .write in
+            let d = a .done in
             let o = write-steps P R n bytes s in
-            let spare = spares s g E r n bytes e (w .e) (w .few) in
-            let d = w .does .when (record { blocks = r .blocks; pages = r .pages; small = small; marks = r .marks; spare = spare }) in
-            let most : w .e ≤ min P L + 1 = capped (isSome (g .line n)) (w .e) (min P L + 1) (w .few) in
-            let later : Running (o .after) (entered g n bytes) (E + o .erases) =
-            record {
-              inv = subst (Inv P L R B (upd (g .line) n (Some bytes))) (sym (d .ends)) (w .inv);
-              blocks = ap (λ (x : State). x .flash .blocks) (d .ends) ∙ d .wears .same-blocks ∙ r .blocks;
-              size = r .size;
-              wear = omega (arith, w .wear, r .wear, ap (λ k. P * k) (d .counts), ap (λ (x : State). charge P (x .tables)) (d .ends));
-              pages = ap (λ (x : State). x .flash .pages) (d .ends) ∙ d .wears .same-pages ∙ r .pages;
-              marks = subst (λ (x : State). Marks (L * P) B (x .flash)) (sym (d .ends)) (d .marks);
-              young = λ b i. subst (λ (x : State). x .flash .count b ≤ x .flash .life) (sym (d .ends)) (omega (arith, d .wears .each-block b, spare b i, d .wears .same-life));
-            } in
             record {
               right = refl;
               asked = d .sound;
               allowed = all-weaker Allowed Unrefused unrefused (o .asked) (d .allowed);
               role = λ _. record {
-                right = stands (o .after) (entered g n bytes) (E + o .erases) later;
+                right = stands (o .after) (entered g n bytes) (E + o .erases) (a .running);
                 led = λ b i. subst (λ (x : State). led b (o .changes) (role-of (s .tables) b) ≡ Some (role-of (x .tables) b)) (sym (d .ends)) (d .led b (omega (arith, r .blocks)));
               };
               count = ap (λ (x : State). total (x .flash)) (d .ends) ∙ grown B (s .flash) (w .end .flash) (w .e) (r .blocks) (d .wears) ∙ ap (λ k. total (s .flash) + k) (sym (d .counts));
-              few = rw (d .counts) most;
-              rest = runs cs (o .after) (entered g n bytes) (E + o .erases) later;
+              few = rw (d .counts) (capped (isSome (g .line n)) (w .e) (min P L + 1) (w .few));
+              rest = runs cs (o .after) (entered g n bytes) (E + o .erases) (a .running);
             }
       ])
       refl)
 
 -- a layer of no sectors refuses every call
+pub no-sector : (f : Flash) (n : ℕ) (bytes : List ℕ) → write-refusal (nothing f) n bytes ≡ Some 13
+unfolding write-refusal
+no-sector f n bytes = let past : ltb n (0 * 0) ≡ false = le-ltb n (0 * 0) (omega arith) in rw (past, write-refusal) refl
+
 idles : (f : Flash) (cs : List Call) (g : Ledger) → g .size ≡ 0 * 0 → Kept 0 0 (nothing f) g 0 cs × (all-told (replies-of (nothing f) cs) ≡ 0)
 unfolding call write-refusal
 idles f [] g e = (record { answers = tt; asks = tt; accepted = tt; roles = λ _. tt; counted = omega arith; bounded = omega arith; each = tt }, refl)
@@ -296,8 +317,7 @@ idles f (read n buffer ∷ cs) g e =
     )
 idles f (write n bytes ∷ cs) g e =
     let y : Layer = nothing f in
-    let past : ltb n (0 * 0) ≡ false = le-ltb n (0 * 0) (omega arith) in
-    let no : write-refusal y n bytes ≡ Some 13 = rw (past, write-refusal) refl in
+    let no : write-refusal y n bytes ≡ Some 13 = no-sector f n bytes in
     let o : Outcome = unchanged y (record { answer = refused 13; buffer = bytes }) in
     let same : call y (write n bytes) ≡ o = rw (no, call) refl in
     let more = idles f cs g e in (
@@ -381,7 +401,7 @@ lawful-from start cs k b right =
     }
 
 -- a layer by the answer of the fit check
-abbrev by-fit : Start → Option ℕ → Layer
+abbrev pub by-fit : Start → Option ℕ → Layer
 by-fit start q =
     let f = start .device in
     elim q [
@@ -395,6 +415,28 @@ record Borne (y : Layer) (cs : List Call) : Type 0 where
   bound : let w = ledger-after (empty (y .logical * y .pages)) cs (replies-of y cs) .overwrites in all-told (replies-of y cs) ≤ w + w / y .pages
   right : 0 < y .logical → Roles-right y
 
+-- what format leaves of a device that fits
+pub begins : (start : Start) (e : fit (start .device) (start .logical) (start .random) ≡ None)
+    → let f = start .device in
+    let L = start .logical in
+    let h = fits f L (start .random) e in
+    Running (f .pages) L (start .random) (f .blocks) (h .pages) (h .some-L) (h .some-R) (h .wide) (h .small) (formatted L (start .first) f .after) (empty (L * f .pages)) 0
+begins start e =
+    let f = start .device in
+    let P = f .pages in
+    let L = start .logical in
+    let h = fits f L (start .random) e in
+    let c = format-cleans L (start .first) f (h .unworn) in
+    record {
+      inv = formats P L (start .random) (start .first) f (h .unworn) (omega (arith, h .pages)) (omega (arith, h .wide));
+      blocks = c .blocks;
+      size = refl;
+      wear = omega (arith, ap (λ (t : Tables). charge P t) (c .tables));
+      pages = c .pages;
+      marks = λ b p i. subst (Marked (L * P)) (sym (c .clean b p i)) tt;
+      young = λ b i. omega (arith, c .once b i, c .life, h .unworn b i);
+    }
+
 bears : (start : Start) (cs : List Call) (q : Option ℕ) → fit (start .device) (start .logical) (start .random) ≡ q → Borne (by-fit start q) cs
 bears start cs (Some m) e =
     let k = idles (start .device) cs (empty (0 * 0)) refl in
@@ -405,24 +447,13 @@ bears start cs None e =
     let L = start .logical in
     let h = fits f L (start .random) e in
     let s : State = formatted L (start .first) f .after in
-    let c = format-cleans L (start .first) f (h .unworn) in
     let y : Layer = by-fit start None in
     let pos : 0 < P = omega (arith, h .pages) in
-    let first : Running P L (start .random) (f .blocks) (h .pages) (h .some-L) (h .some-R) (h .wide) (h .small) s (empty (L * P)) 0 =
-    record {
-      inv = formats P L (start .random) (start .first) f (h .unworn) pos (omega (arith, h .wide));
-      blocks = c .blocks;
-      size = refl;
-      wear = omega (arith, ap (λ (t : Tables). charge P t) (c .tables));
-      pages = c .pages;
-      marks = λ b p i. subst (Marked (L * P)) (sym (c .clean b p i)) tt;
-      young = λ b i. omega (arith, c .once b i, c .life, h .unworn b i);
-    } in
-    let k = runs P L (start .random) (f .blocks) (h .pages) (h .some-L) (h .some-R) (h .wide) (h .small) cs s (empty (L * P)) 0 first in
+    let k = runs P L (start .random) (f .blocks) (h .pages) (h .some-L) (h .some-R) (h .wide) (h .small) cs s (empty (L * P)) 0 (begins start e) in
     record {
       kept = k;
       bound = part-more P _ _ pos (subst (λ n. P * n ≤ (P + 1) * ledger-after (empty (L * P)) cs (replies-of y cs) .overwrites) (omega arith) (k .bounded));
-      right = λ _. stands P L (start .random) (f .blocks) (h .pages) (h .some-L) (h .some-R) (h .wide) (h .small) s (empty (L * P)) 0 first;
+      right = λ _. stands P L (start .random) (f .blocks) (h .pages) (h .some-L) (h .some-R) (h .wide) (h .small) s (empty (L * P)) 0 (begins start e);
     }
 
 pub every-run-is-lawful : Every-run-is-lawful

@@ -49,16 +49,17 @@ unrefused-ask s (erase b) h = rw (lt-ltb b (s .flash .blocks) (h .0), lt-ltb (s 
 pub unrefused : (m : Moment) → Allowed m → Unrefused m
 unrefused m h = unrefused-ask (m .before) (m .ask) h
 
--- what becomes of the counts: e erases in all, of blocks below B
+-- what becomes of the counts: e erases in all, of blocks below B, and no count falls
 pub record Wears (B : ℕ) (f g : Flash) (e : ℕ) : Type 0 where
   pub same-blocks : g .blocks ≡ f .blocks
   pub same-pages : g .pages ≡ f .pages
   pub same-life : g .life ≡ f .life
   pub total : sum-below B (g .count) ≡ sum-below B (f .count) + e
   pub each-block : (b : ℕ) → g .count b ≤ f .count b + e
+  pub never-less : (b : ℕ) → f .count b ≤ g .count b
 
 pub wears-none : {B : ℕ} {f : Flash} (g : ℕ → ℕ → Page) → Wears B f (with-pages f g) 0
-wears-none g = record { same-blocks = refl; same-pages = refl; same-life = refl; total = omega arith; each-block = λ b. omega arith }
+wears-none g = record { same-blocks = refl; same-pages = refl; same-life = refl; total = omega arith; each-block = λ b. omega arith; never-less = λ b. omega arith }
 
 sum-past : (n : ℕ) (f : ℕ → ℕ) (b x : ℕ) → n ≤ b → sum-below n (upd f b x) ≡ sum-below n f
 unfolding sum-below
@@ -82,6 +83,7 @@ wears-one {B} {f} b h =
       same-life = refl;
       total = sum-more B (f .count) b h;
       each-block = λ c. upd-both (f .count) b (f .count b + 1) c (λ n. n ≤ f .count c + 1) (λ e. rw e (omega arith)) (λ _. omega arith);
+      never-less = λ c. upd-both (f .count) b (f .count b + 1) c (λ n. f .count c ≤ n) (λ e. rw e (omega arith)) (λ _. omega arith);
     }
 
 pub wears-then : {B : ℕ} {f g h : Flash} {d e : ℕ} → Wears B f g d → Wears B g h e → Wears B f h (d + e)
@@ -92,6 +94,7 @@ wears-then x y =
       same-life = y .same-life ∙ x .same-life;
       total = omega (arith, x .total, y .total);
       each-block = λ b. omega (arith, x .each-block b, y .each-block b);
+      never-less = λ b. omega (arith, x .never-less b, y .never-less b);
     }
 
 -- the marks of all pages have sector numbers below n

@@ -1,2 +1,3 @@
 pub mod Slots
 pub mod Spreads
+pub mod Layers

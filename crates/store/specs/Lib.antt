@@ -2,3 +2,4 @@ pub mod Meaning
 pub mod Told
 pub mod Plain
 pub mod Spread
+pub mod Layered

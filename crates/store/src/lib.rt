@@ -1,5 +1,6 @@
 // Sector stores: numbered sectors of 512 bytes, whatever keeps them.
 
+pub mod layered;
 pub mod plain;
 pub mod spread;
 pub mod store;
