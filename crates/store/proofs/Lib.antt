@@ -1,3 +1,4 @@
 pub mod Slots
 pub mod Spreads
 pub mod Layers
+pub mod Plays

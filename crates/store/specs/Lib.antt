@@ -2,4 +2,5 @@ pub mod Meaning
 pub mod Told
 pub mod Plain
 pub mod Spread
+pub mod Played
 pub mod Layered

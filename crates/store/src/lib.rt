@@ -2,5 +2,6 @@
 
 pub mod layered;
 pub mod plain;
+pub mod play;
 pub mod spread;
 pub mod store;
