@@ -32,6 +32,10 @@ put-is bs ys at h whole =
     let n : at + 513 - (at + 1) ≡ length ys = omega arith in
     rw (first, n) (ap (λ xs. take (at + 1) (take at bs ++ (1 ∷ drop (at + 1) bs)) ++ (ys ++ xs)) (drop-drop (length ys) (at + 1) (take at bs ++ (1 ∷ drop (at + 1) bs))))
 
+pub blank-slot : (bs : List ℕ) (at : ℕ) → getD bs at 0 ≡ 0 → plain-at bs at ≡ None
+unfolding plain-at
+blank-slot bs at h = grind (arith, tells)
+
 pub written-slot : (bs : List ℕ) (at : ℕ) → (getD bs at 0 ≡ 0 → ⊥) → plain-at bs at ≡ Some (take 512 (drop (at + 1) bs))
 unfolding plain-at
 written-slot bs at h = grind (arith, tells)

@@ -3,7 +3,9 @@
 // It refuses no write that names a sector and brings one, and answers no erases and no copies. It is what the layer is compared with.
 
 ghost use denote.Ref.{now as held};
+ghost use lib.Dec.{eqb};
 ghost use lib.ListN.{length};
+ghost use mathlib.Core.Bool.{not};
 ghost use mathlib.Core.List.{[], _∷_};
 ghost use mathlib.Core.Path.{_≡_};
 ghost use Prim.Native.Nat.{_+_, _*_, _<_, _≤_};
@@ -31,13 +33,20 @@ pub struct PlainStore<'a> {
     bytes: &'a mut [u8],
 }
 
+// What the byte before a sector says: 0 for never written, and any other for written.
+fn is_written(flag: u8) -> bool
+    ensures { λ r. ⌜ r ≡ not (eqb flag 0) ⌝ }
+{
+    flag != 0
+}
+
 // What the slot at a byte holds.
 fn show(bytes: &[u8], at: usize, buffer: &mut [u8]) -> Found
     requires within { ⌜ at + 513 ≤ length (now bytes) ⌝ }
     requires whole { ⌜ length (now buffer) ≡ 512 ⌝ }
     ensures { λ r. ⌜ found-told r (now (buffer .exit)) ≡ shown (plain-at (now (bytes .entry)) at) ⌝ }
 {
-    if bytes[at] == 0 {
+    if !is_written(bytes[at]) {
         buffer.fill(0xFF);
         return Found::NeverWritten;
     }
