@@ -37,8 +37,12 @@ unfoldable pub number-of : List ℕ → Option ℕ
 number-of ds =
     cond (leb 1 (length ds) && (leb (length ds) 10 && (eqb (leading digit ds) (length ds) && ltb (value ds) (2 ^ 32)))) (Some (value ds)) None
 
+-- Any byte but one.
+abbrev pub other-than : ℕ → ℕ → Bool
+other-than stop c = not (eqb c stop)
+
 abbrev pub no-space : ℕ → Bool
-no-space c = not (eqb c 32)
+no-space = other-than 32
 
 abbrev pub read-of : Option ℕ → Option Said
 read-of (Some n) = Some (says-read n)

@@ -1,2 +1,4 @@
 pub mod Commands
+pub mod Lines
+pub mod Running
 pub mod Told

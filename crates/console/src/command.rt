@@ -6,10 +6,13 @@
 ghost use lib.ListN.{length};
 ghost use mathlib.Core.Path.{_≡_};
 ghost use Prim.Native.Nat.{_≤_};
-ghost use Rattle.console.specs.Commands.{number-of, no-space, said, said-write, Spelling};
+ghost use Rattle.console.specs.Commands.{number-of, said, said-write, Spelling};
 ghost use Rattle.console.specs.Told.{command-told};
-ghost use Rattle.std.specs.shelf.Lists.{leading};
+use crate::scan::before;
 use flash::numbers::Sector;
+
+// The longest numeral: as long as that of the largest number of 32 bits.
+const MOST_DIGITS: usize = 10;
 
 // The longest text: a whole sector.
 const MOST_TEXT: usize = 512;
@@ -25,7 +28,7 @@ pub enum Command<'a> {
 fn parse_number(digits: &[u8]) -> Option<u32>
     ensures { λ r. ⌜ r ≡ number-of (now (digits .entry)) ⌝ }
 {
-    if digits.len() < 1 || digits.len() > 10 {
+    if digits.len() < 1 || digits.len() > MOST_DIGITS {
         return None;
     }
     let mut value = 0u64;
@@ -38,22 +41,10 @@ fn parse_number(digits: &[u8]) -> Option<u32>
     u32::try_from(value).ok()
 }
 
-// How many bytes there are before the first space.
-fn before_space(bytes: &[u8]) -> usize
-    ensures { λ r. ⌜ r ≡ leading no-space (now (bytes .entry)) ⌝ }
-{
-    for (i, byte) in bytes.iter().enumerate() {
-        if *byte == b' ' {
-            return i;
-        }
-    }
-    bytes.len()
-}
-
 fn parse_write<'a>(rest: &'a [u8]) -> Option<Command<'a>>
     ensures { λ r. ⌜ command-told r ≡ said-write (now (rest .entry)) ⌝ }
 {
-    let space = before_space(rest);
+    let space = before(rest, b' ');
     if space >= rest.len() {
         return None;
     }

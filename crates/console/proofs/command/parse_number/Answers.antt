@@ -46,4 +46,4 @@ returns c =
     let t = take-all (c .loop-digit .digit-index) (c .args .digits .now) (omega arith) in
     c .ok .ensures .value
     ∙ all-read (c .args .digits .now) (c .loop-digit .value) (c .try-from .result) (c .try-from .ensures) (c .loop-digit .inv .0 ∙ ap value t)
-    (c .if-digits-lt1 .left) (c .if-digits-gt10 .left) (omega (arith, c .loop-digit .inv .2))
+    (c .if-digits-lt1 .left) (c .if-digits-gt-MOST-DIGITS .left) (omega (arith, c .loop-digit .inv .2))
