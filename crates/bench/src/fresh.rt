@@ -1,7 +1,10 @@
 // Command lines on a fresh layer, over any device.
 
+ghost use lib.Chars.{codes};
 ghost use lib.ListN.{length};
-ghost use Prim.Native.Nat.{_≤_};
+ghost use mathlib.Core.List.{[], _∷_, _++_};
+ghost use mathlib.Core.Path.{_≡_};
+ghost use Prim.Native.Nat.{_<_, _≤_};
 ghost use Rattle.console.specs.Lines.{lines};
 ghost use Rattle.console.specs.Running.{Prints};
 ghost use Rattle.fast.specs.Told.{started};
@@ -29,7 +32,8 @@ pub fn respond_fresh<D: Device + Drop>(
     device: D,
     input: &[u8],
 ) -> Result<Vec<u8>, AllocError>
-    ensures { λ r. ⌜ made r (λ out. length (now (input .entry)) ≤ 65536 → (u : Table) × Prints (layer-table (format (started (D·Device .flash device) 4 2 1))) 1 (lines (now (input .entry))) (vec-items out) u) ⌝ }
+    ensures prints { λ r. ⌜ made r (λ out. length (now (input .entry)) ≤ 65536 → (u : Table) × Prints (layer-table (format (started (D·Device .flash device) 4 2 1))) 1 (lines (now (input .entry))) (vec-items out) u) ⌝ }
+    ensures refuses { λ r. ⌜ made r (λ out. 65536 < length (now (input .entry)) → vec-items out ≡ codes "too long" ++ (10 ∷ [])) ⌝ }
 {
     match Layer::format(heap, device, LOGICAL, RANDOM, FIRST_STAMP) {
         Err((_, error)) => Err(error),

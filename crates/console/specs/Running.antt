@@ -6,10 +6,9 @@ use mathlib.Core.Path.{_≡_}
 use Rattle.std.specs.declared.option.Option.{Option}
 use Rattle.std.specs.declared.option.Option.the-variants.{Some, None}
 use Rattle.std.specs.declared.result.Result.{Result}
-use Rattle.std.specs.declared.result.Result.the-variants.{Ok, Err}
 use Rattle.fast.specs.declared.refusal.Refusal.{Refusal}
 use Rattle.fast.specs.Told.{write-told}
-use Rattle.scheme.specs.Ledger.{Reply, reads}
+use Rattle.scheme.specs.Ledger.{reads}
 use Rattle.store.specs.Meaning.{Table, Written}
 use Rattle.store.specs.Told.{refusal-told}
 use Rattle.console.specs.Commands.{Said, says-write, says-read, said}

@@ -7,7 +7,7 @@ ghost use lib.ListN.{length};
 ghost use mathlib.Core.List.{_++_};
 ghost use mathlib.Core.Path.{_≡_};
 ghost use Prim.Native.Nat.{_≤_};
-ghost use Rattle.console.specs.Commands.{Said, says-read, says-write, said};
+ghost use Rattle.console.specs.Commands.{says-read, says-write, said};
 ghost use Rattle.console.specs.Lines.{lines, padded, before-zero, bytes-line, refused-line, reply-line};
 ghost use Rattle.console.specs.Running.{Adds, Prints};
 ghost use Rattle.fast.specs.Told.{read-told, write-told};

@@ -13,10 +13,13 @@ returns g c =
     let made = c .in-Ok .ensures tt in
     let flash = g .D·Device .flash in
     let u = layer-table (layer-of flash (c .respond .last .store)) in
-    made-weaker (c .respond .result) _ _
-    (λ out h short. (
-      u,
-      subst (λ y. Prints (layer-table y) 1 (lines (c .args .input .now)) (vec-items out) u) (made .after)
-          (h short (started (flash (c .args .device)) 4 2 1, [], made .law .reached)),
-    ))
-    (c .respond .ensures .prints)
+    record {
+      prints = made-weaker (c .respond .result) _ _
+          (λ out h short. (
+            u,
+            subst (λ y. Prints (layer-table y) 1 (lines (c .args .input .now)) (vec-items out) u) (made .after)
+                (h short (started (flash (c .args .device)) 4 2 1, [], made .law .reached)),
+          ))
+          (c .respond .ensures .prints);
+      refuses = c .respond .ensures .refuses;
+    }
