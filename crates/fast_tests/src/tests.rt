@@ -88,6 +88,7 @@ enum Case {
     WorkedRun,
     StaleEntry,
     Edges,
+    NoStamp,
     // an overwrite, which may cost five erases, with a block this far below its life
     Wear { accepted: bool },
     Unfit,
@@ -151,6 +152,7 @@ fn try_case<D: Device>(layer: &mut Layer<D>, case: Case) -> Result<(), Fail> {
             answer(layer, &STALE_ENTRY)
         }
         Case::Edges => sectors_and_stamps_end(layer),
+        Case::NoStamp => check_eq(write(layer, 0), Err(Refusal::StampsUsedUp)),
         Case::Wear { accepted } => {
             fill(layer)?;
             let want = if accepted {
@@ -205,6 +207,10 @@ fn a_stale_entry_is_not_merged_for(rt: LibcRuntime) -> Result<(), Fail> {
 fn sectors_and_stamps_have_an_end(rt: LibcRuntime) -> Result<(), Fail> {
     check_eq(
         on_module(rt.alloc(), 0, 4, 0xFFFF_FFFE, Case::Edges)?,
+        false,
+    )?;
+    check_eq(
+        on_module(rt.alloc(), 0, 4, 0xFFFF_FFFF, Case::NoStamp)?,
         false,
     )
 }
