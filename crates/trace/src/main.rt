@@ -2,8 +2,8 @@
 // each program and erase that was asked of the device.
 //
 // The module is the join of a chip of 4 blocks and a window of 4 blocks, from block 1 on, on a chip of 5; 4 pages a block, life 100. The
-// layer has 4 logical blocks, 2 random log blocks and first stamp 1. The file `stdout` beside this crate was worked out from the steps by
-// hand, not taken from a run.
+// layer has 4 logical blocks, 2 random log blocks and first stamp 1. The file `stdout` beside this crate was made
+// by a separate model of the steps, not taken from a run.
 
 use fast::layer::Layer;
 use fast::refusal::RefusalDebug;
