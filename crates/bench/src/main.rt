@@ -3,6 +3,8 @@
 // The module is the join of a chip of 4 blocks and a window of 4 blocks, from block 1 on, on a chip of 5; 4 pages a block, life 100, no block
 // erased yet. It is made anew for each run. The file `stdout` beside this crate was worked out by hand, not taken from a run.
 
+#![tactic(auto)]
+
 use anyhow::anyhow;
 use console::respond::MOST_BYTES;
 use fresh::respond_on_module;

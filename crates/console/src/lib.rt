@@ -1,5 +1,7 @@
 // Command lines over sectors, and the runner that carries them out.
 
+#![tactic(auto)]
+
 pub mod command;
 pub mod respond;
 pub mod runner;

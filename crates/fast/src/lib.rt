@@ -4,6 +4,8 @@
 // calls is private: `tables` is what the layer knows, `steps` is what a write does, `start` makes the tables that format leaves, and
 // `wear` is the check that keeps every block within its life.
 
+#![tactic(auto)]
+
 pub mod fit;
 pub mod layer;
 pub mod numbers;

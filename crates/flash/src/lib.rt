@@ -1,5 +1,7 @@
 // Raw NAND flash devices: what one means, and three kinds of them.
 
+#![tactic(auto)]
+
 pub mod blank;
 pub mod chip;
 pub mod device;

@@ -2,6 +2,8 @@
 //
 // No contract can say what a reader gives, so the tests below say that nothing is lost and where reading stops.
 
+#![tactic(auto)]
+
 use std::alloc::Global;
 use std::io::Read;
 

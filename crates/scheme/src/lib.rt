@@ -5,6 +5,8 @@
 // function names it, so each theorem has a function, which does nothing. It is a crate of its own because none of it depends on the
 // code: a change of the code does not prove the law again.
 
+#![tactic(auto)]
+
 ghost use Rattle.scheme.specs.Bench.{TwelveAnswers};
 ghost use Rattle.scheme.specs.Law.{EveryRunIsLawful, EveryCallIsLawful};
 

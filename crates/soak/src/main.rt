@@ -2,6 +2,8 @@
 // written to each sector. Every read is compared, and at the end every sector is read back. No write of a sector may be refused, and the
 // erases that the writes tell have to be those that the device counted, and no more than the bound allows.
 
+#![tactic(auto)]
+
 use anyhow::anyhow;
 use chips::blank::blank_image;
 use fast::layer::{Found, Layer};

@@ -1,5 +1,7 @@
 // Sector stores: numbered sectors of 512 bytes, whatever keeps them.
 
+#![tactic(auto)]
+
 pub mod layered;
 pub mod plain;
 pub mod play;

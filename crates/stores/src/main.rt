@@ -3,6 +3,8 @@
 // Both have 16 sectors. The input has every way in which a line is refused, and what is barely accepted. The two outputs differ only in the
 // counts of a write that makes the layer erase a block. The file `stdout` beside this crate was worked out by hand, not taken from a run.
 
+#![tactic(auto)]
+
 use anyhow::anyhow;
 use chips::blank::blank_image;
 use console::respond::{MOST_BYTES, respond};

@@ -5,6 +5,8 @@
 // layer has 4 logical blocks, 2 random log blocks and first stamp 1. The file `stdout` beside this crate was made
 // by a separate model of the steps, not taken from a run.
 
+#![tactic(auto)]
+
 use anyhow::anyhow;
 use chips::blank::blank_image;
 use chips::module::{LEFT_BLOCKS, RIGHT_BLOCKS, two_chips};
