@@ -11,10 +11,10 @@ use Rattle.bench.proofs.fresh.respond_on_module.Goals as goal
 
 pub returns : goal.returns
 returns c =
-    let left = c.new.ensures.means ∙ (ap image_flash c.deref-mut.ensures.value ∙ c.in-ok-left.ensures.means) in
-    let right = c.new-2.ensures.means ∙ (ap image_flash c.deref-mut-2.ensures.value ∙ c.in-ok-right.ensures.means) in
-    let device = c.two-chips-module.ensures ∙ module_of _ _ left right in
-    let done = c.in-ok-respond-fresh.ensures in
+    let left = c.new.ensures.means ∙ (ap image_flash c.deref_mut.ensures.value ∙ c.in_ok-left.ensures.means) in
+    let right = c.new-2.ensures.means ∙ (ap image_flash c.deref_mut-2.ensures.value ∙ c.in_ok-right.ensures.means) in
+    let device = c.two_chips-module.ensures ∙ module_of _ _ left right in
+    let done = c.in_ok-respond_fresh.ensures in
     let text = lines c.args.input.now in
     record {
       prints = λ short. let told = done.prints short in (told.0, subst (λ f. Prints (layer_table (format (started f 4 2 1))) 1 text (vec_items _) told.0) device told.1);

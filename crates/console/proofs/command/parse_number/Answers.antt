@@ -37,5 +37,5 @@ returns c =
     let e = prefix_len-drop_all digit c.args.digits.now c.loop-digit.digit-index (omega arith) in
     let t = take_all c.loop-digit.digit-index c.args.digits.now (omega arith) in
     c.ok.ensures.value
-    ∙ all_read c.args.digits.now c.loop-digit.value c.try-from.result c.try-from.ensures (c.loop-digit.invariant.0 ∙ ap value t)
-    c.if-digits-lt1.false c.if-digits-gt-MOST-DIGITS.false (omega (arith, c.loop-digit.invariant.2))
+    ∙ all_read c.args.digits.now c.loop-digit.value c.try_from.result c.try_from.ensures (c.loop-digit.invariant.0 ∙ ap value t)
+    c.if-digits-lt1.false c.if-digits-gt-MOST_DIGITS.false (omega (arith, c.loop-digit.invariant.2))

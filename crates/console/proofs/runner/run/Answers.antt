@@ -24,10 +24,10 @@ loop-i-preserved g c =
     let ends : get_or c.args.input.now c.loop-i.i 0 ≡ 10 = omega arith in (
       omega arith,
       omega arith,
-      λ v. c.run-line.ensures.stays (l.invariant.2 v),
+      λ v. c.run_line.ensures.stays (l.invariant.2 v),
       λ v. onward_line (table c.args.store.now) (lines bs) (table l.store) l.number (lines_at l.start l.i bs) (between l.start l.i bs)
-          (lines_at (l.i + 1) (l.i + 1) bs) (vec_items l.out) (vec_items c.run-line.new.out) (table c.run-line.new.store)
-          (line_ends bs l.start l.i (omega arith) ends) (l.invariant.3 v) (c.in-ok-run-line.ensures.adds (l.invariant.2 v)),
+          (lines_at (l.i + 1) (l.i + 1) bs) (vec_items l.out) (vec_items c.run_line.new.out) (table c.run_line.new.store)
+          (line_ends bs l.start l.i (omega arith) ends) (l.invariant.3 v) (c.in_ok-run_line.ensures.adds (l.invariant.2 v)),
     )
 
 pub returns-then-start-input : goal.returns-then-start-input
@@ -46,13 +46,13 @@ returns g c =
     let bs = c.args.input.now in
     let l = c.loop-i in
     let table = g.S.Store.table in
-    let after = c.run-line-2.new in
+    let after = c.run_line-2.new in
     let all : g.S.Store.valid c.args.store.now →
-    Onward (g.S.Store.table c.args.store.now) (lines c.args.input.now) (g.S.Store.table c.run-line-2.new.store) (c.loop-i.number + 1) [] (vec_items c.run-line-2.new.out) =
+    Onward (g.S.Store.table c.args.store.now) (lines c.args.input.now) (g.S.Store.table c.run_line-2.new.store) (c.loop-i.number + 1) [] (vec_items c.run_line-2.new.out) =
     λ v. onward_line (table c.args.store.now) (lines bs) (table l.store) l.number (lines_at l.start l.i bs) (between l.start (length bs) bs)
     [] (vec_items l.out) (vec_items after.out) (table after.store)
-    (last_line bs l.start l.i (omega arith) (omega arith)) (l.invariant.3 v) (c.in-ok-run-line-2.ensures.adds (l.invariant.2 v)) in
+    (last_line bs l.start l.i (omega arith) (omega arith)) (l.invariant.3 v) (c.in_ok-run_line-2.ensures.adds (l.invariant.2 v)) in
     record {
       prints = λ v. onward_last (table c.args.store.now) (lines bs) (table after.store) (l.number + 1) [] (vec_items after.out) refl (all v);
-      stays = λ v. c.run-line-2.ensures.stays (l.invariant.2 v);
+      stays = λ v. c.run_line-2.ensures.stays (l.invariant.2 v);
     }

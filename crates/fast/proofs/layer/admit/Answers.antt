@@ -33,14 +33,14 @@ shown f t n b first h e found =
     let i : n / t.sizes.pages < length (vec_items t.map) = omega (arith, t.map.ok.0, t.mapped) in
     found ∙ ap (λ k. is_blank (seen f k (n % t.sizes.pages))) (getD_numbers (vec_items t.map) (n / t.sizes.pages) b i e)
 
-pub returns-then-wears-out : goal.returns-then-wears-out
-returns-then-wears-out g c =
+pub returns-then-wears_out : goal.returns-then-wears_out
+returns-then-wears_out g c =
     let t = c.args.tables.now in
     let f = g.D.Device.flash c.args.device.now in
     let y = meant f (Some t) in
     let n = c.args.sector.0 in
     let found = shown f t n c.index-block.result.now c.vacant-first.result c.if-sector-sizes.false c.index-block.ensures c.vacant-first.ensures in
-    record { refusal = no_life y n c.args.bytes.now c.if-sector-sizes.false c.if-bytes-ne512.false (wears y n c.args.bytes.now c.vacant-first.result true found c.if-wears-out.ensures); known = tt; left = tt; found = tt }
+    record { refusal = no_life y n c.args.bytes.now c.if-sector-sizes.false c.if-bytes-ne512.false (wears y n c.args.bytes.now c.vacant-first.result true found c.if-wears_out.ensures); known = tt; left = tt; found = tt }
 
 pub returns-then-tables : goal.returns-then-tables
 returns-then-tables g c =
@@ -49,7 +49,7 @@ returns-then-tables g c =
     let y = meant f (Some t) in
     let n = c.args.sector.0 in
     let found = shown f t n c.index-block.result.now c.vacant-first.result c.if-sector-sizes.false c.index-block.ensures c.vacant-first.ensures in
-    record { refusal = no_stamp y n c.args.bytes.now c.if-sector-sizes.false c.if-bytes-ne512.false (wears y n c.args.bytes.now c.vacant-first.result false found c.if-wears-out.ensures) c.if-tables.true; known = tt; left = tt; found = tt }
+    record { refusal = no_stamp y n c.args.bytes.now c.if-sector-sizes.false c.if-bytes-ne512.false (wears y n c.args.bytes.now c.vacant-first.result false found c.if-wears_out.ensures) c.if-tables.true; known = tt; left = tt; found = tt }
 
 pub returns : goal.returns
 returns g c =
@@ -59,7 +59,7 @@ returns g c =
     let n = c.args.sector.0 in
     let found = shown f t n c.index-block.result.now c.vacant-first.result c.if-sector-sizes.false c.index-block.ensures c.vacant-first.ensures in
     record {
-      refusal = no_bar y n c.args.bytes.now c.if-sector-sizes.false c.if-bytes-ne512.false (wears y n c.args.bytes.now c.vacant-first.result false found c.if-wears-out.ensures) c.if-tables.false;
+      refusal = no_bar y n c.args.bytes.now c.if-sector-sizes.false c.if-bytes-ne512.false (wears y n c.args.bytes.now c.vacant-first.result false found c.if-wears_out.ensures) c.if-tables.false;
       known = c.if-sector-sizes.false;
       left = search rules;
       found = found;

@@ -17,7 +17,7 @@ returns-in-Read g c =
       reply =
           ap (read_told c.read-found.result) (taken_back c.read-found.new.buffer _ _ (omega arith))
           ∙ c.read-found.ensures.reply
-          ∙ ap (λ b. (call y (read n b)).reply) c.deref-mut.ensures.value
+          ∙ ap (λ b. (call y (read n b)).reply) c.deref_mut.ensures.value
           ∙ ap (λ d. (call y d).reply) (sym is);
       after = read_after y n x ∙ ap (λ d. (call y d).after) (sym is);
     }

@@ -19,14 +19,14 @@ loop-next-preserved g c =
     let s = c.in-Some.ensures.steps in (
       tt,
       tt,
-      plays_more (layer_of flash c.args.layer.now) (into_iter_items c.into-iter-next-iterator.result) (layer_of flash c.loop-next.layer) (layer_of flash c.make-reply.new.layer) (into_iter_items c.loop-next.next-iterator) (into_iter_items c.next.new.self) c.in-Some.next (vec_items c.loop-next.replies) (vec_items c.push-reserved.new.self) c.make-reply.result
-          s.0 c.make-reply.ensures.after c.make-reply.ensures.reply c.push-reserved.ensures.items c.loop-next.invariant.2,
-      c.push-reserved.ensures.capacity ∙ c.loop-next.invariant.3,
+      plays_more (layer_of flash c.args.layer.now) (into_iter_items c.into-iter-next-iterator.result) (layer_of flash c.loop-next.layer) (layer_of flash c.make-reply.new.layer) (into_iter_items c.loop-next.next-iterator) (into_iter_items c.next.new.self) c.in-Some.next (vec_items c.loop-next.replies) (vec_items c.push_reserved.new.self) c.make-reply.result
+          s.0 c.make-reply.ensures.after c.make-reply.ensures.reply c.push_reserved.ensures.items c.loop-next.invariant.2,
+      c.push_reserved.ensures.capacity ∙ c.loop-next.invariant.3,
       omega (arith, c.loop-next.invariant.4, s.1, ap length s.0),
     )
 
-pub push-reserved-requires : goal.push-reserved-requires
-push-reserved-requires g c =
+pub push_reserved-requires : goal.push_reserved-requires
+push_reserved-requires g c =
     omega (
       arith,
       c.loop-next.invariant.2.count,

@@ -11,9 +11,9 @@ pub returns : goal.returns
 returns g c =
     let start : Start = started (g.D.Device.flash c.args.device) c.args.logical c.args.random c.args.first in
     let calls : List Call = calls_told (vec_items c.args.calls) in
-    let e = c.in-ok-layer.ensures.after in
+    let e = c.in_ok-layer.ensures.after in
     record {
-      law = subst (Law start calls) (sym (c.make-all.ensures.replies ∙ ap (λ y. replies_of y calls) e)) (every_run_is_lawful start calls);
-      after = sym (c.make-all.ensures.after ∙ ap (λ y. last_layer y calls) e);
+      law = subst (Law start calls) (sym (c.make_all.ensures.replies ∙ ap (λ y. replies_of y calls) e)) (every_run_is_lawful start calls);
+      after = sym (c.make_all.ensures.after ∙ ap (λ y. last_layer y calls) e);
       untouched = tt;
     }

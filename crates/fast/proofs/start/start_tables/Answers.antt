@@ -7,13 +7,13 @@ use Rattle.fast.proofs.start.start_tables.Goals as goal
 pub invariant-of-result : goal.invariant-of-result
 invariant-of-result c =
     let z = c.args.sizes in
-    let map = c.in-ok-map.ensures in
-    let free = c.in-ok-free.ensures in
-    let logs = c.in-ok-logs.ensures in
-    let entries = c.in-ok-entries.ensures in
+    let map = c.in_ok-map.ensures in
+    let free = c.in_ok-free.ensures in
+    let logs = c.in_ok-logs.ensures in
+    let entries = c.in_ok-entries.ensures in
     let none = ap (λ n. z.pages * n) logs.len in
     let fits : z.logical ≤ z.blocks = omega (arith, z.blocks_fit) in (
-      (λ b. omega (arith, all_once z.blocks z.logical (vec_items c.in-ok-map.map) (vec_items c.in-ok-free.free) fits map.0 free.0 b, ap (uses b) logs.items)),
+      (λ b. omega (arith, all_once z.blocks z.logical (vec_items c.in_ok-map.map) (vec_items c.in_ok-free.free) fits map.0 free.0 b, ap (uses b) logs.items)),
       (
         (λ n. omega (arith, ap (λ es. live_entries n (entries_view es)) entries.items)),
         (
@@ -53,11 +53,11 @@ invariant-of-result c =
 pub returns : goal.returns
 returns c =
     let z = c.args.sizes in
-    let map = c.in-ok-map.ensures in
-    let free = c.in-ok-free.ensures in
-    let logs = c.in-ok-logs.ensures in
-    let entries = c.in-ok-entries.ensures in
-    let d = map_rising z.logical (vec_items c.in-ok-map.map) map.0 in
+    let map = c.in_ok-map.ensures in
+    let free = c.in_ok-free.ensures in
+    let logs = c.in_ok-logs.ensures in
+    let entries = c.in_ok-entries.ensures in
+    let d = map_rising z.logical (vec_items c.in_ok-map.map) map.0 in
     let l = ap numbers logs.items in
     let e = ap entries_view entries.items in
     let f = free.0 in (

@@ -2,41 +2,41 @@ use Rattle.std.proofs.Common.{rules}
 use Rattle.flash.specs.BlankImage.{room_checked}
 use Rattle.flash.proofs.blank.check_room.Goals as goal
 
-pub returns-in-err-room : goal.returns-in-err-room
+pub returns-in_err-room : goal.returns-in_err-room
 unfolding room_checked
-returns-in-err-room c = search rules
+returns-in_err-room c = search rules
 
-pub returns-in-err-blocks : goal.returns-in-err-blocks
+pub returns-in_err-blocks : goal.returns-in_err-blocks
 unfolding room_checked
-returns-in-err-blocks c = search rules
+returns-in_err-blocks c = search rules
 
-pub returns-in-err-pages : goal.returns-in-err-pages
+pub returns-in_err-pages : goal.returns-in_err-pages
 unfolding room_checked
-returns-in-err-pages c = search rules
+returns-in_err-pages c = search rules
 
-pub returns-in-err-in-range : goal.returns-in-err-in-range
+pub returns-in_err-in_range : goal.returns-in_err-in_range
 unfolding room_checked
-returns-in-err-in-range c = search rules
+returns-in_err-in_range c = search rules
 
-pub returns-in-err-sectors : goal.returns-in-err-sectors
+pub returns-in_err-sectors : goal.returns-in_err-sectors
 unfolding room_checked
-returns-in-err-sectors c = search rules
+returns-in_err-sectors c = search rules
 
-pub returns-in-err-stamps : goal.returns-in-err-stamps
+pub returns-in_err-stamps : goal.returns-in_err-stamps
 unfolding room_checked
-returns-in-err-stamps c = search rules
+returns-in_err-stamps c = search rules
 
-pub returns-in-err-contents : goal.returns-in-err-contents
+pub returns-in_err-contents : goal.returns-in_err-contents
 unfolding room_checked
-returns-in-err-contents c = search rules
+returns-in_err-contents c = search rules
 
-pub returns-in-err-end : goal.returns-in-err-end
+pub returns-in_err-end : goal.returns-in_err-end
 unfolding room_checked
-returns-in-err-end c = search rules
+returns-in_err-end c = search rules
 
-pub returns-in-err-no-rest : goal.returns-in-err-no-rest
+pub returns-in_err-no_rest : goal.returns-in_err-no_rest
 unfolding room_checked
-returns-in-err-no-rest c = search rules
+returns-in_err-no_rest c = search rules
 
 pub returns : goal.returns
 unfolding room_checked

@@ -2,8 +2,8 @@ use Rattle.std.proofs.Common.{length, rules}
 use Rattle.flash.proofs.Blanks.{written, verdict}
 use Rattle.flash.proofs.blank.write_blank.Goals as goal
 
-pub returns-in-err-check-room : goal.returns-in-err-check-room
-returns-in-err-check-room c = record {
+pub returns-in_err-check_room : goal.returns-in_err-check_room
+returns-in_err-check_room c = record {
   answer = search rules;
   after = search rules;
   accepted = search rules;
@@ -13,8 +13,8 @@ returns-in-err-check-room c = record {
 
 pub returns : goal.returns
 returns c =
-    let w = written (length c.args.bytes.now) c.args.geometry c.fill.new.self c.put-numbers.new.bytes
-    c.in-ok-check-room.ensures.fits (c.fill.ensures.after (λ y e. e)) c.put-numbers.ensures in
+    let w = written (length c.args.bytes.now) c.args.geometry c.fill.new.self c.put_numbers.new.bytes
+    c.in_ok-check_room.ensures.fits (c.fill.ensures.after (λ y e. e)) c.put_numbers.ensures in
     record {
       answer = search rules;
       after = w.0;

@@ -14,7 +14,7 @@ returns g c =
     let was = c.args.buffer.now in
     let left = c.erase.ensures.after in
     let told = c.read.ensures.answer ∙ ap (λ h. read_answer h b o (length was)) left in
-    let ok = c.in-ok-erase.ensures.answer in
+    let ok = c.in_ok-erase.ensures.answer in
     record {
       answer = told ∙ erase_told f b ok o (length was);
       filled = c.read.ensures.filled ∙ (ap (λ h. read_buffer h b o was) left ∙ (erase_filled f b ok o was ∙ ap (λ a. then_filled a (replicate 512 0xFF) was) (sym told)));

@@ -4,30 +4,30 @@ use Rattle.image.specs.Told.{check_told}
 use Rattle.image.proofs.Laws.{check_law}
 use Rattle.image.proofs.check.check.Goals as goal
 
-pub returns-in-err-geometry : goal.returns-in-err-geometry
+pub returns-in_err-geometry : goal.returns-in_err-geometry
 unfolding checked
-returns-in-err-geometry c = record { answer = search rules; law = check_law _ _ (λ i. (c.type-inv.bytes i).fits) (search rules) }
+returns-in_err-geometry c = record { answer = search rules; law = check_law _ _ (λ i. (c.type_inv.bytes i).fits) (search rules) }
 
-pub returns-in-err-sectors : goal.returns-in-err-sectors
+pub returns-in_err-sectors : goal.returns-in_err-sectors
 unfolding checked
-returns-in-err-sectors c = record { answer = search rules; law = check_law _ _ (λ i. (c.type-inv.bytes i).fits) (search rules) }
+returns-in_err-sectors c = record { answer = search rules; law = check_law _ _ (λ i. (c.type_inv.bytes i).fits) (search rules) }
 
-pub returns-in-err-stamps : goal.returns-in-err-stamps
+pub returns-in_err-stamps : goal.returns-in_err-stamps
 unfolding checked
-returns-in-err-stamps c = record { answer = search rules; law = check_law _ _ (λ i. (c.type-inv.bytes i).fits) (search rules) }
+returns-in_err-stamps c = record { answer = search rules; law = check_law _ _ (λ i. (c.type_inv.bytes i).fits) (search rules) }
 
-pub returns-in-err-contents : goal.returns-in-err-contents
+pub returns-in_err-contents : goal.returns-in_err-contents
 unfolding checked
-returns-in-err-contents c = record { answer = search rules; law = check_law _ _ (λ i. (c.type-inv.bytes i).fits) (search rules) }
+returns-in_err-contents c = record { answer = search rules; law = check_law _ _ (λ i. (c.type_inv.bytes i).fits) (search rules) }
 
-pub returns-in-err-end : goal.returns-in-err-end
+pub returns-in_err-end : goal.returns-in_err-end
 unfolding checked
-returns-in-err-end c = record { answer = search rules; law = check_law _ _ (λ i. (c.type-inv.bytes i).fits) (search rules) }
+returns-in_err-end c = record { answer = search rules; law = check_law _ _ (λ i. (c.type_inv.bytes i).fits) (search rules) }
 
-pub returns-in-err-read-end : goal.returns-in-err-read-end
+pub returns-in_err-read_end : goal.returns-in_err-read_end
 unfolding checked
-returns-in-err-read-end c = record { answer = search rules; law = check_law _ _ (λ i. (c.type-inv.bytes i).fits) (search rules) }
+returns-in_err-read_end c = record { answer = search rules; law = check_law _ _ (λ i. (c.type_inv.bytes i).fits) (search rules) }
 
 pub returns : goal.returns
 unfolding checked
-returns c = record { answer = search rules; law = check_law _ _ (λ i. (c.type-inv.bytes i).fits) (search rules) }
+returns c = record { answer = search rules; law = check_law _ _ (λ i. (c.type_inv.bytes i).fits) (search rules) }

@@ -5,5 +5,5 @@ use Rattle.store.proofs.plain.put.Goals as goal
 
 pub returns : goal.returns
 returns c =
-    ap (put_mid (c.args.at + 1) (c.args.at + 513 - (c.args.at + 1)) (set c.args.bytes.now c.args.at 1)) c.copy-from-slice.ensures.after
+    ap (put_mid (c.args.at + 1) (c.args.at + 513 - (c.args.at + 1)) (set c.args.bytes.now c.args.at 1)) c.copy_from_slice.ensures.after
     ∙ put_is c.args.bytes.now c.args.sector.now c.args.at c.requires.within c.requires.whole

@@ -13,6 +13,6 @@ returns-in-Read g c =
       made = λ _. read_made t (call_told c.args.next) _ _ _ (ap call_told c.in-Read.is)
           (ap (read_told c.read-found.result) (take_at c.read-found.new.buffer _ _ (omega arith))
           ∙ c.read-found.ensures
-          ∙ ap (reads t.size t.line c.in-Read.sector.0) c.deref-mut.ensures.value);
+          ∙ ap (reads t.size t.line c.in-Read.sector.0) c.deref_mut.ensures.value);
       stays = λ v. v;
     }

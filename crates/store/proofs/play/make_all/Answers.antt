@@ -27,16 +27,16 @@ loop-next-preserved g c =
     let s = c.in-Some.ensures.steps in (
       tt,
       tt,
-      λ v. plays_more (table c.args.store.now) (into_iter_items c.into-iter-next-iterator.result) (table c.loop-next.store) (table c.make-reply.new.store) (into_iter_items c.loop-next.next-iterator) (into_iter_items c.next.new.self) c.in-Some.next (vec_items c.loop-next.replies) (vec_items c.push-reserved.new.self) c.make-reply.result
-          s.0 (c.make-reply.ensures.made (c.loop-next.invariant.3 v)) c.push-reserved.ensures.items (c.loop-next.invariant.2 v),
+      λ v. plays_more (table c.args.store.now) (into_iter_items c.into-iter-next-iterator.result) (table c.loop-next.store) (table c.make-reply.new.store) (into_iter_items c.loop-next.next-iterator) (into_iter_items c.next.new.self) c.in-Some.next (vec_items c.loop-next.replies) (vec_items c.push_reserved.new.self) c.make-reply.result
+          s.0 (c.make-reply.ensures.made (c.loop-next.invariant.3 v)) c.push_reserved.ensures.items (c.loop-next.invariant.2 v),
       λ v. c.make-reply.ensures.stays (c.loop-next.invariant.3 v),
-      c.push-reserved.ensures.capacity ∙ c.loop-next.invariant.4,
+      c.push_reserved.ensures.capacity ∙ c.loop-next.invariant.4,
       omega (arith, c.loop-next.invariant.5, s.1, ap length s.0),
-      omega (arith, c.loop-next.invariant.6, ap length s.0, ap length c.push-reserved.ensures.items, length_push (vec_items c.loop-next.replies) c.make-reply.result),
+      omega (arith, c.loop-next.invariant.6, ap length s.0, ap length c.push_reserved.ensures.items, length_push (vec_items c.loop-next.replies) c.make-reply.result),
     )
 
-pub push-reserved-requires : goal.push-reserved-requires
-push-reserved-requires g c =
+pub push_reserved-requires : goal.push_reserved-requires
+push_reserved-requires g c =
     omega (
       arith,
       c.loop-next.invariant.6,

@@ -9,22 +9,22 @@ pub returns-then-line-lt2 : goal.returns-then-line-lt2
 unfolding said
 returns-then-line-lt2 c = record { command = search rules; law = spelling _ _ (search rules) }
 
-pub returns-in-err-parse-number : goal.returns-in-err-parse-number
-returns-in-err-parse-number c =
-    let e = ap command_told c.from-residual.ensures
-    ∙ ap read_of (c.in-err-parse-number.ensures ∙ ap number_of (take_rest c.args.line.now 2))
+pub returns-in_err-parse_number : goal.returns-in_err-parse_number
+returns-in_err-parse_number c =
+    let e = ap command_told c.from_residual.ensures
+    ∙ ap read_of (c.in_err-parse_number.ensures ∙ ap number_of (take_rest c.args.line.now 2))
     ∙ sym (said_r c.args.line.now (omega arith) (omega arith) (omega arith)) in
     record { command = e; law = spelling _ _ e }
 
-pub returns-in-ok-parse-number : goal.returns-in-ok-parse-number
-returns-in-ok-parse-number c =
-    let e = ap read_of (c.in-ok-parse-number.ensures ∙ ap number_of (take_rest c.args.line.now 2))
+pub returns-in_ok-parse_number : goal.returns-in_ok-parse_number
+returns-in_ok-parse_number c =
+    let e = ap read_of (c.in_ok-parse_number.ensures ∙ ap number_of (take_rest c.args.line.now 2))
     ∙ sym (said_r c.args.line.now (omega arith) (omega arith) (omega arith)) in
     record { command = e; law = spelling _ _ e }
 
 pub returns-in-119 : goal.returns-in-119
 returns-in-119 c =
-    let e = c.parse-write.ensures ∙ ap said_write (take_rest c.args.line.now 2) ∙ sym (said_w c.args.line.now (omega arith) (omega arith) (omega arith)) in
+    let e = c.parse_write.ensures ∙ ap said_write (take_rest c.args.line.now 2) ∙ sym (said_w c.args.line.now (omega arith) (omega arith) (omega arith)) in
     record { command = e; law = spelling _ _ e }
 
 pub returns-in-default : goal.returns-in-default

@@ -35,10 +35,10 @@ returns-in-Ok g c =
     let n = c.args.sector.0 in
     let x = c.args.bytes.now in
     let t = c.in-Some.tables in
-    let d = c.write-accepted-step.ensures in
-    let u = c.write-accepted-step.result.tables in
-    let e = flash c.write-accepted-step.new.device in
-    let r : Reply = record { answer = wrote c.write-accepted-step.result.erases c.write-accepted-step.result.copies; buffer = x } in
+    let d = c.write_accepted-step.ensures in
+    let u = c.write_accepted-step.result.tables in
+    let e = flash c.write_accepted-step.new.device in
+    let r : Reply = record { answer = wrote c.write_accepted-step.result.erases c.write_accepted-step.result.copies; buffer = x } in
     let w : Written (meant f c.args.self.now.tables) (meant e (Some u)) n x r =
     subst (λ q. Written (meant f q) (meant e (Some u)) n x r) c.in-Some.ensures.value (accepted_write f e t u n x _ _ c.in-Ok.ensures.refusal d.work d.sized) in
     record { reply = w.reply; after = w.after; law = lawful _ _ (write n x) r w.reply w.after }

@@ -8,8 +8,8 @@ use Rattle.fast.proofs.Measures.{pages_of}
 use Rattle.fast.proofs.Rooms.{length_numbers, reclaimed}
 use Rattle.fast.proofs.steps.writes.reclaim.Goals as goal
 
-pub visit-all-tables-requires : goal.visit-all-tables-requires
-visit-all-tables-requires g c =
+pub visit_all-tables-requires : goal.visit_all-tables-requires
+visit_all-tables-requires g c =
     let t = c.args.tables in
     let m : t.sizes.pages * 1 ≤ t.sizes.pages * vec_len t.rw.blocks = mul-le-mul_left t.sizes.pages c.requires.some in
     record { long = omega (arith, m, c.requires.full) }
@@ -17,7 +17,7 @@ visit-all-tables-requires g c =
 pub retire-tables-requires : goal.retire-tables-requires
 retire-tables-requires g c =
     let t = c.args.tables in
-    let d = c.visit-all-tables.ensures in
+    let d = c.visit_all-tables.ensures in
     let m : t.sizes.pages * 1 ≤ t.sizes.pages * vec_len t.rw.blocks = mul-le-mul_left t.sizes.pages c.requires.some in
     record { some = omega (arith, d.logged.0, c.requires.some); long = omega (arith, m, c.requires.full, d.logged.1, ap pages_of d.sized.0) }
 
@@ -25,14 +25,14 @@ pub returns : goal.returns
 returns g c =
     let t = c.args.tables in
     let flash = g.D.Device.flash in
-    let v = c.visit-all-tables.result.tables in
-    let d = c.visit-all-tables.ensures in
+    let v = c.visit_all-tables.result.tables in
+    let d = c.visit_all-tables.ensures in
     let r = c.retire-tables.ensures in
     let some : 0 < length (numbers (vec_items v.rw.blocks)) = omega (arith, length_numbers (vec_items v.rw.blocks), v.rw.blocks.ok.0, d.logged.0, c.requires.some) in
     record {
       work =
-          reclaimed t.sizes.pages (at (flash c.args.device.now) (view_of t)) (flash c.visit-all-tables.new.device) (flash c.erase.new.self) (view_of v) (view_of c.retire-tables.result.0) _ _ d.work some
-          (r.tables ∙ ap (λ p. with_random (drop 1 (view_of v).logs) (drop p (view_of v).entries) (with_free ((view_of v).free ++ (get_or (view_of v).logs 0 0 ∷ [])) (view_of v))) (ap pages_of d.sized.0)) (c.erase.ensures.after ∙ ap (erased (flash c.visit-all-tables.new.device)) r.block);
+          reclaimed t.sizes.pages (at (flash c.args.device.now) (view_of t)) (flash c.visit_all-tables.new.device) (flash c.erase.new.self) (view_of v) (view_of c.retire-tables.result.0) _ _ d.work some
+          (r.tables ∙ ap (λ p. with_random (drop 1 (view_of v).logs) (drop p (view_of v).entries) (with_free ((view_of v).free ++ (get_or (view_of v).logs 0 0 ∷ [])) (view_of v))) (ap pages_of d.sized.0)) (c.erase.ensures.after ∙ ap (erased (flash c.visit_all-tables.new.device)) r.block);
       few = (omega (arith, d.few.0), d.few.1);
       sized = (r.sized.0 ∙ d.sized.0, r.sized.1 ∙ d.sized.1);
       logs = r.logs ∙ d.logged.0;

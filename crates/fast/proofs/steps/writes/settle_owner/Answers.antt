@@ -8,9 +8,9 @@ pub returns : goal.returns
 returns g c =
     let t = c.args.tables in
     let flash = g.D.Device.flash in
-    let d = c.merge-sw.ensures in
+    let d = c.merge_sw.ensures in
     record {
-      work = settles_owner t.sizes.pages (at (flash c.args.device.now) (view_of t)) t.sw c.in-Some.sw (flash c.merge-sw.new.device) (view_of c.merge-sw.result.tables) _ _ refl c.in-Some.is d.work;
+      work = settles_owner t.sizes.pages (at (flash c.args.device.now) (view_of t)) t.sw c.in-Some.sw (flash c.merge_sw.new.device) (view_of c.merge_sw.result.tables) _ _ refl c.in-Some.is d.work;
       few = d.few;
       sized = d.sized;
       none = d.none;

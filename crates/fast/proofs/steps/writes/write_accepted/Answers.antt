@@ -4,8 +4,8 @@ use Rattle.fast.specs.Meaning.{view_of}
 use Rattle.fast.proofs.Accepted.{blank_written, used_written}
 use Rattle.fast.proofs.steps.writes.write_accepted.Goals as goal
 
-pub write-first-requires : goal.write-first-requires
-write-first-requires g c =
+pub write_first-requires : goal.write_first-requires
+write_first-requires g c =
     let t = c.args.tables in
     let pos : 0 < t.sizes.pages = omega (arith, t.sizes.pages_fit) in
     let known : c.args.sector.0 / t.sizes.pages < t.sizes.logical = (div-lt_iff_lt-mul pos).1 c.requires.known in

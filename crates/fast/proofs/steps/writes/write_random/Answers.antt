@@ -10,15 +10,15 @@ use Rattle.fast.proofs.steps.writes.write_random.Goals as goal
 pub returns : goal.returns
 returns g c =
     let t = c.args.tables in
-    let v = c.make-room-tables.result.tables in
+    let v = c.make_room-tables.result.tables in
     let flash = g.D.Device.flash in
-    let d = c.make-room-tables.ensures in
-    let r = c.append-rw.ensures in
+    let d = c.make_room-tables.ensures in
+    let r = c.append_rw.ensures in
     let n = c.args.mark.sector.0 in
     let x = holds n c.args.mark.stamp c.args.bytes.now in
-    let next : Left (append_random t.sizes.pages n x (at (flash c.make-room-tables.new.device) (view_of v))) (flash c.append-rw.new.device) (view_of c.append-rw.result) 0 0 =
-    subst (λ p. Left (append_random p n x (at (flash c.make-room-tables.new.device) (view_of v))) (flash c.append-rw.new.device) (view_of c.append-rw.result) 0 0) (ap pages_of d.sized.0) r.work in
+    let next : Left (append_random t.sizes.pages n x (at (flash c.make_room-tables.new.device) (view_of v))) (flash c.append_rw.new.device) (view_of c.append_rw.result) 0 0 =
+    subst (λ p. Left (append_random p n x (at (flash c.make_room-tables.new.device) (view_of v))) (flash c.append_rw.new.device) (view_of c.append_rw.result) 0 0) (ap pages_of d.sized.0) r.work in
     record {
-      work = random_written t.sizes.pages t.sizes.random n x (at (flash c.args.device.now) (view_of t)) (flash c.make-room-tables.new.device) (flash c.append-rw.new.device) (view_of v) (view_of c.append-rw.result) _ _ d.work next;
+      work = random_written t.sizes.pages t.sizes.random n x (at (flash c.args.device.now) (view_of t)) (flash c.make_room-tables.new.device) (flash c.append_rw.new.device) (view_of v) (view_of c.append_rw.result) _ _ d.work next;
       sized = (r.sized.0 ∙ d.sized.0, r.sized.1 ∙ d.sized.1);
     }

@@ -12,8 +12,8 @@ returns-then-o-sw g c =
     let flash = g.D.Device.flash in
     let x = holds c.args.mark.sector.0 c.args.mark.stamp c.args.bytes.now in
     record {
-      work = next_written t.sizes.pages c.args.mark.sector.0 k.owner.0 c.args.o.0 x (sequential_of k) (at (flash c.args.device.now) (view_of t)) (flash c.append-sw.new.device) (view_of c.append-sw.result) _ _ c.if-o-sw.true c.append-sw.ensures.work;
-      sized = c.append-sw.ensures.sized;
+      work = next_written t.sizes.pages c.args.mark.sector.0 k.owner.0 c.args.o.0 x (sequential_of k) (at (flash c.args.device.now) (view_of t)) (flash c.append_sw.new.device) (view_of c.append_sw.result) _ _ c.if-o-sw.true c.append_sw.ensures.work;
+      sized = c.append_sw.ensures.sized;
     }
 
 pub returns-then-sw-o : goal.returns-then-sw-o
@@ -34,6 +34,6 @@ returns g c =
     let flash = g.D.Device.flash in
     let x = holds c.args.mark.sector.0 c.args.mark.stamp c.args.bytes.now in
     record {
-      work = back_written t.sizes.pages c.args.mark.sector.0 k.owner.0 c.args.o.0 x (sequential_of k) (at (flash c.args.device.now) (view_of t)) (flash c.merge-over.new.device) (view_of c.merge-over.result.tables) _ _ c.if-o-sw.false c.if-sw-o.false c.merge-over.ensures.work;
-      sized = c.merge-over.ensures.sized;
+      work = back_written t.sizes.pages c.args.mark.sector.0 k.owner.0 c.args.o.0 x (sequential_of k) (at (flash c.args.device.now) (view_of t)) (flash c.merge_over.new.device) (view_of c.merge_over.result.tables) _ _ c.if-o-sw.false c.if-sw-o.false c.merge_over.ensures.work;
+      sized = c.merge_over.ensures.sized;
     }

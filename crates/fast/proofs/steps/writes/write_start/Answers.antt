@@ -10,14 +10,14 @@ use Rattle.fast.proofs.steps.writes.write_start.Goals as goal
 pub returns : goal.returns
 returns g c =
     let t = c.args.tables in
-    let v = c.settle-owner-tables.result.tables in
+    let v = c.settle_owner-tables.result.tables in
     let flash = g.D.Device.flash in
-    let d = c.settle-owner-tables.ensures in
-    let r = c.open-sw.ensures in
+    let d = c.settle_owner-tables.ensures in
+    let r = c.open_sw.ensures in
     let x = holds c.args.mark.sector.0 c.args.mark.stamp c.args.bytes.now in
-    let next : Left (open_sequential t.sizes.pages c.args.b.0 x (view_of v).free (at (flash c.settle-owner-tables.new.device) (view_of v))) (flash c.open-sw.new.device) (view_of c.open-sw.result) 0 0 =
-    subst (λ p. Left (open_sequential p c.args.b.0 x (view_of v).free (at (flash c.settle-owner-tables.new.device) (view_of v))) (flash c.open-sw.new.device) (view_of c.open-sw.result) 0 0) (ap pages_of d.sized.0) r.work in
+    let next : Left (open_sequential t.sizes.pages c.args.b.0 x (view_of v).free (at (flash c.settle_owner-tables.new.device) (view_of v))) (flash c.open_sw.new.device) (view_of c.open_sw.result) 0 0 =
+    subst (λ p. Left (open_sequential p c.args.b.0 x (view_of v).free (at (flash c.settle_owner-tables.new.device) (view_of v))) (flash c.open_sw.new.device) (view_of c.open_sw.result) 0 0) (ap pages_of d.sized.0) r.work in
     record {
-      work = start_written t.sizes.pages c.args.b.0 x (at (flash c.args.device.now) (view_of t)) (flash c.settle-owner-tables.new.device) (flash c.open-sw.new.device) (view_of v) (view_of c.open-sw.result) _ _ d.work next;
+      work = start_written t.sizes.pages c.args.b.0 x (at (flash c.args.device.now) (view_of t)) (flash c.settle_owner-tables.new.device) (flash c.open_sw.new.device) (view_of v) (view_of c.open_sw.result) _ _ d.work next;
       sized = (r.sized.0 ∙ d.sized.0, r.sized.1 ∙ d.sized.1);
     }

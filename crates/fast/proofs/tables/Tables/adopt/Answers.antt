@@ -12,13 +12,13 @@ invariant-of-result c =
     let known : k.owner.0 < t.sizes.logical = omega (arith, ap owner_of c.requires.has, t.owned) in
     let h : k.owner.0 < length (vec_items t.map) = omega (arith, t.map.ok.0, t.mapped) in
     let gone : busy t.sw ≡ 1 = ap busy c.requires.has in
-    let logs = ap vec_items c.expire-block.ensures.blocks in
-    let same-logs = ap vec_len c.expire-block.ensures.blocks in
+    let logs = ap vec_items c.expire_block.ensures.blocks in
+    let same-logs = ap vec_len c.expire_block.ensures.blocks in
     let is-old = getD_numbers (vec_items t.map) k.owner.0 old h c.index-old.ensures in
     let free = c.put.ensures.items in (
       adopted_roles (vec_items t.map) (vec_items t.rw.blocks) (vec_items t.free.blocks) _ _ t.sw k c.requires.has old h is-old logs free t.sizes.blocks t.one_role,
       (
-        (λ n. omega (arith, ap (live_entries n) c.expire-block.ensures.entries, live_stale (λ n. eqb (n / t.sizes.pages) k.owner.0) n (entries_view (vec_items t.rw.entries)), t.one_live n)),
+        (λ n. omega (arith, ap (live_entries n) c.expire_block.ensures.entries, live_stale (λ n. eqb (n / t.sizes.pages) k.owner.0) n (entries_view (vec_items t.rw.entries)), t.one_live n)),
         (
           omega (arith, t.sizes.logical_fits),
           (
@@ -61,15 +61,15 @@ returns c =
     let known : k.owner.0 < t.sizes.logical = omega (arith, ap owner_of c.requires.has, t.owned) in
     let h : k.owner.0 < length (vec_items t.map) = omega (arith, t.map.ok.0, t.mapped) in
     let gone : busy t.sw ≡ 1 = ap busy c.requires.has in
-    let logs = ap vec_items c.expire-block.ensures.blocks in
-    let same-logs = ap vec_len c.expire-block.ensures.blocks in
+    let logs = ap vec_items c.expire_block.ensures.blocks in
+    let same-logs = ap vec_len c.expire_block.ensures.blocks in
     let is-old = getD_numbers (vec_items t.map) k.owner.0 old h c.index-old.ensures in
     let free = c.put.ensures.items in
     record {
-      tables = adopted_view (vec_items t.map) (vec_items t.rw.blocks) (vec_items t.free.blocks) _ _ t.sw k c.requires.has old h is-old logs free t.sizes.pages (vec_items t.rw.entries) _ t.next c.expire-block.ensures.entries;
+      tables = adopted_view (vec_items t.map) (vec_items t.rw.blocks) (vec_items t.free.blocks) _ _ t.sw k c.requires.has old h is-old logs free t.sizes.pages (vec_items t.rw.entries) _ t.next c.expire_block.ensures.entries;
       none = refl;
       old = is-old;
-      roles = adopted_led (vec_items t.map) (vec_items t.rw.blocks) (vec_items t.free.blocks) _ _ t.sw k c.requires.has old h is-old logs free t.sizes.blocks t.one_role (vec_items t.rw.entries) (vec_items c.expire-block.new.self.entries) t.next t.next;
+      roles = adopted_led (vec_items t.map) (vec_items t.rw.blocks) (vec_items t.free.blocks) _ _ t.sw k c.requires.has old h is-old logs free t.sizes.blocks t.one_role (vec_items t.rw.entries) (vec_items c.expire_block.new.self.entries) t.next t.next;
       sized = search rules;
-      logged = (same-logs, c.expire-block.ensures.len);
+      logged = (same-logs, c.expire_block.ensures.len);
     }

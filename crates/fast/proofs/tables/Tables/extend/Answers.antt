@@ -11,9 +11,9 @@ pub invariant-of-result : goal.invariant-of-result
 invariant-of-result c =
     let t = c.args.self in
     let k = c.args.sw in
-    let stale = c.expire-sector.ensures.entries in
-    let logs = ap vec_items c.expire-sector.ensures.blocks in
-    let same-logs = ap vec_len c.expire-sector.ensures.blocks in (
+    let stale = c.expire_sector.ensures.entries in
+    let logs = ap vec_items c.expire_sector.ensures.blocks in
+    let same-logs = ap vec_len c.expire_sector.ensures.blocks in (
       (λ b. omega (arith, t.one_role b, ap (uses b) logs, ap (uses_sw b) c.requires.has, ap (λ (x : Block). same b x.0) c.extend.ensures.block)),
       (
         (λ n. omega (arith, ap (live_entries n) stale, live_stale (λ m. eqb m c.args.taken.0) n (entries_view (vec_items t.rw.entries)), t.one_live n)),
@@ -54,8 +54,8 @@ invariant-of-result c =
 pub returns : goal.returns
 returns c =
     let t = c.args.self in
-    let logs = ap (λ v. numbers (vec_items v)) c.expire-sector.ensures.blocks in
-    let stale = c.expire-sector.ensures.entries in
+    let logs = ap (λ v. numbers (vec_items v)) c.expire_sector.ensures.blocks in
+    let stale = c.expire_sector.ensures.entries in
     let o = ap (λ (x : LogicalBlock). x.0) c.extend.ensures.owner in
     let b = ap (λ (x : Block). x.0) c.extend.ensures.block in
     let f = c.extend.ensures.fill in

@@ -10,14 +10,14 @@ pub append-requires : goal.append-requires
 append-requires c =
     let t = c.args.self in
     let m : t.sizes.pages * vec_len t.rw.blocks ≤ t.sizes.pages * t.sizes.random = mul-le-mul_left t.sizes.pages t.few_logs in
-    omega (arith, m, c.expire-sector.ensures.len, c.expire-sector.ensures.room, c.requires.room, t.room_entries)
+    omega (arith, m, c.expire_sector.ensures.len, c.expire_sector.ensures.room, c.requires.room, t.room_entries)
 
 pub invariant-of-result : goal.invariant-of-result
 invariant-of-result c =
     let t = c.args.self in
-    let stale = c.expire-sector.ensures.entries in
-    let logs = ap vec_items (c.append.ensures.blocks ∙ c.expire-sector.ensures.blocks) in
-    let same-logs = ap vec_len (c.append.ensures.blocks ∙ c.expire-sector.ensures.blocks) in
+    let stale = c.expire_sector.ensures.entries in
+    let logs = ap vec_items (c.append.ensures.blocks ∙ c.expire_sector.ensures.blocks) in
+    let same-logs = ap vec_len (c.append.ensures.blocks ∙ c.expire_sector.ensures.blocks) in
     let more = ap (λ n. t.sizes.pages * n) same-logs in
     let e = c.append.ensures.entries ∙ ap (λ es. es ++ (live c.args.sector.0 ∷ [])) stale in (
       (λ b. omega (arith, t.one_role b, ap (uses b) logs)),
@@ -34,9 +34,9 @@ invariant-of-result c =
                 (
                   omega (arith, same-logs, t.few_logs),
                   (
-                    omega (arith, more, c.append.ensures.len, c.expire-sector.ensures.len, c.requires.room),
+                    omega (arith, more, c.append.ensures.len, c.expire_sector.ensures.len, c.requires.room),
                     (
-                      omega (arith, more, c.append.ensures.len, c.expire-sector.ensures.len, t.logs_full),
+                      omega (arith, more, c.append.ensures.len, c.expire_sector.ensures.len, t.logs_full),
                       (
                         search rules,
                         (
@@ -60,8 +60,8 @@ invariant-of-result c =
 pub returns : goal.returns
 returns c =
     let t = c.args.self in
-    let logs = ap (λ v. numbers (vec_items v)) (c.append.ensures.blocks ∙ c.expire-sector.ensures.blocks) in
-    let stale = c.expire-sector.ensures.entries in
+    let logs = ap (λ v. numbers (vec_items v)) (c.append.ensures.blocks ∙ c.expire_sector.ensures.blocks) in
+    let stale = c.expire_sector.ensures.entries in
     let e = c.append.ensures.entries ∙ ap (λ es. es ++ (live c.args.sector.0 ∷ [])) stale in
     record {
       tables = λ j. record { data_block = (view_of t).data_block; sequential = (view_of t).sequential; logs = logs j; entries = e j; free = (view_of t).free; next = t.next };

@@ -11,11 +11,11 @@ invariant-of-result c =
     let h : c.args.c.0 < length (vec_items t.map) = omega (arith, t.map.ok.0, t.mapped, c.requires.known) in
     let k : 0 < length (vec_items t.free.blocks) = omega (arith, t.free.blocks.ok.0, c.requires.some) in
     let free = c.put.ensures.items ∙ ap (λ xs. xs ++ (old ∷ [])) c.take-new.ensures.items in
-    let logs = ap vec_items c.expire-block.ensures.blocks in
-    let same-logs = ap vec_len c.expire-block.ensures.blocks in (
+    let logs = ap vec_items c.expire_block.ensures.blocks in
+    let same-logs = ap vec_len c.expire_block.ensures.blocks in (
       renewed_roles (vec_items t.map) (vec_items t.rw.blocks) (vec_items t.free.blocks) _ _ c.args.c.0 c.take-new.result old h k c.take-new.ensures.block (getD_numbers (vec_items t.map) c.args.c.0 old h c.index-old.ensures) logs free t.sizes.blocks t.sw t.one_role,
       (
-        (λ n. omega (arith, ap (live_entries n) c.expire-block.ensures.entries, live_stale (λ n. eqb (n / t.sizes.pages) c.args.c.0) n (entries_view (vec_items t.rw.entries)), t.one_live n)),
+        (λ n. omega (arith, ap (live_entries n) c.expire_block.ensures.entries, live_stale (λ n. eqb (n / t.sizes.pages) c.args.c.0) n (entries_view (vec_items t.rw.entries)), t.one_live n)),
         (
           t.owned,
           (
@@ -57,12 +57,12 @@ returns c =
     let h : c.args.c.0 < length (vec_items t.map) = omega (arith, t.map.ok.0, t.mapped, c.requires.known) in
     let k : 0 < length (vec_items t.free.blocks) = omega (arith, t.free.blocks.ok.0, c.requires.some) in
     let free = c.put.ensures.items ∙ ap (λ xs. xs ++ (old ∷ [])) c.take-new.ensures.items in
-    let logs = ap vec_items c.expire-block.ensures.blocks in
+    let logs = ap vec_items c.expire_block.ensures.blocks in
     let is-old = getD_numbers (vec_items t.map) c.args.c.0 old h c.index-old.ensures in
     record {
-      tables = renewed_view (vec_items t.map) (vec_items t.rw.blocks) (vec_items t.free.blocks) _ _ c.args.c.0 c.take-new.result old h k c.take-new.ensures.block is-old logs free t.sizes.pages t.sw (vec_items t.rw.entries) _ t.next c.requires.unowned c.expire-block.ensures.entries;
+      tables = renewed_view (vec_items t.map) (vec_items t.rw.blocks) (vec_items t.free.blocks) _ _ c.args.c.0 c.take-new.result old h k c.take-new.ensures.block is-old logs free t.sizes.pages t.sw (vec_items t.rw.entries) _ t.next c.requires.unowned c.expire_block.ensures.entries;
       old = is-old;
-      roles = renewed_led (vec_items t.map) (vec_items t.rw.blocks) (vec_items t.free.blocks) _ _ c.args.c.0 c.take-new.result old h k c.take-new.ensures.block is-old logs free t.sizes.blocks t.sw t.one_role (vec_items t.rw.entries) (vec_items c.expire-block.new.self.entries) t.next t.next;
+      roles = renewed_led (vec_items t.map) (vec_items t.rw.blocks) (vec_items t.free.blocks) _ _ c.args.c.0 c.take-new.result old h k c.take-new.ensures.block is-old logs free t.sizes.blocks t.sw t.one_role (vec_items t.rw.entries) (vec_items c.expire_block.new.self.entries) t.next t.next;
       sized = search rules;
-      logged = (ap vec_len c.expire-block.ensures.blocks, c.expire-block.ensures.len);
+      logged = (ap vec_len c.expire_block.ensures.blocks, c.expire_block.ensures.len);
     }

@@ -12,7 +12,7 @@ invariant-of-result c =
     let some : 0 < length (vec_items t.rw.blocks) = omega (arith, t.rw.blocks.ok.0, c.requires.some) in
     let e = ap entries_view c.retire-block.ensures.entries ∙ views_drop t.sizes.pages (vec_items t.rw.entries) in
     let len : vec_len c.retire-block.new.self.entries ≡ vec_len t.rw.entries - t.sizes.pages = omega (arith, ap length c.retire-block.ensures.entries, length-drop t.sizes.pages (vec_items t.rw.entries), t.rw.entries.ok.0, c.retire-block.new.self.entries.ok.0) in
-    let more = ap (λ n. t.sizes.pages * n) c.retire-block.ensures.blocks-len in (
+    let more = ap (λ n. t.sizes.pages * n) c.retire-block.ensures.blocks_len in (
       (λ b. omega (arith, t.one_role b, moved b (vec_items t.rw.blocks) (vec_items t.free.blocks) _ _ c.retire-block.result some c.retire-block.ensures.block c.retire-block.ensures.blocks c.put.ensures.items)),
       (
         (λ n. omega (arith, ap (live_entries n) e, live_drop n t.sizes.pages (entries_view (vec_items t.rw.entries)), t.one_live n)),
@@ -23,9 +23,9 @@ invariant-of-result c =
             (
               t.mapped,
               (
-                omega (arith, t.all_blocks, c.retire-block.ensures.blocks-len, c.put.ensures.len),
+                omega (arith, t.all_blocks, c.retire-block.ensures.blocks_len, c.put.ensures.len),
                 (
-                  omega (arith, c.retire-block.ensures.blocks-len, t.few_logs),
+                  omega (arith, c.retire-block.ensures.blocks_len, t.few_logs),
                   (
                     omega (arith, more, len, t.entries_fit),
                     (
@@ -63,6 +63,6 @@ returns c =
           retired_led t.sizes.blocks (vec_items t.map) (vec_items t.rw.entries) (vec_items c.retire-block.new.self.entries) t.next t.next t.sw (vec_items t.rw.blocks) _ (vec_items t.free.blocks) _ c.retire-block.result t.one_role
           (omega (arith, t.rw.blocks.ok.0, c.requires.some)) c.retire-block.ensures.block c.retire-block.ensures.blocks c.put.ensures.items;
       sized = search rules;
-      logs = c.retire-block.ensures.blocks-len;
+      logs = c.retire-block.ensures.blocks_len;
       entries = omega (arith, ap length c.retire-block.ensures.entries, length-drop t.sizes.pages (vec_items t.rw.entries), t.rw.entries.ok.0, c.retire-block.new.self.entries.ok.0);
     }

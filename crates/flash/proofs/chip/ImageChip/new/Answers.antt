@@ -5,7 +5,7 @@ use Rattle.flash.proofs.chip.ImageChip.new.Goals as goal
 pub returns : goal.returns
 returns c = record {
   bytes = refl;
-  geometry = c.geometry-of-geometry.ensures;
-  proper = chip_proper c.args.bytes.now c.geometry-of-geometry.result;
-  means = made_chip c.args.bytes.now c.geometry-of-geometry.result c.geometry-of-geometry.ensures;
+  geometry = c.geometry_of-geometry.ensures;
+  proper = chip_proper c.args.bytes.now c.geometry_of-geometry.result;
+  means = made_chip c.args.bytes.now c.geometry_of-geometry.result c.geometry_of-geometry.ensures;
 }

@@ -2,9 +2,9 @@ use Rattle.std.proofs.Common.{sym, refl, ap, ◌∙◌, arith}
 use Rattle.flash.proofs.Chips.{shape_told, shape_untold}
 use Rattle.flash.proofs.chip.ImageChip.shape.Goals as goal
 
-pub returns-then-has-shape : goal.returns-then-has-shape
-returns-then-has-shape c =
-    let t = shape_told c.args.self.now.bytes.now c.args.self.now.geometry (sym c.has-shape.ensures ∙ c.if-has-shape.true) in
+pub returns-then-has_shape : goal.returns-then-has_shape
+returns-then-has_shape c =
+    let t = shape_told c.args.self.now.bytes.now c.args.self.now.geometry (sym c.has_shape.ensures ∙ c.if-has_shape.true) in
     record {
       blocks = sym (ap (λ f. f.blocks) t.0);
       pages = sym (ap (λ f. f.pages) t.0);
@@ -13,9 +13,9 @@ returns-then-has-shape c =
       own = λ _. refl;
     }
 
-pub returns-else-has-shape : goal.returns-else-has-shape
-returns-else-has-shape c =
-    let e = shape_untold c.args.self.now.bytes.now c.args.self.now.geometry (sym c.has-shape.ensures ∙ c.if-has-shape.false) in
+pub returns-else-has_shape : goal.returns-else-has_shape
+returns-else-has_shape c =
+    let e = shape_untold c.args.self.now.bytes.now c.args.self.now.geometry (sym c.has_shape.ensures ∙ c.if-has_shape.false) in
     record {
       blocks = sym (ap (λ f. f.blocks) e);
       pages = sym (ap (λ f. f.pages) e);

@@ -7,11 +7,11 @@ returns-then-count-shape c =
     let e = chip_count c.args.self.now.bytes.now c.args.self.now.geometry c.shape-shape.result (c.shape-shape.ensures.own_val (omega arith)) (c.shape-shape.ensures.fits (omega arith)) c.args.block.0 (omega arith) in
     record { answer = search rules; after = search rules; bytes = search rules; geometry = refl; image = λ k. (refl, k) }
 
-pub page-places-at-requires : goal.page-places-at-requires
-page-places-at-requires c = let n = next_block c.shape-shape.result.pages c.args.block.0 c.shape-shape.result.blocks (omega arith) in search rules
+pub page_places-at-requires : goal.page_places-at-requires
+page_places-at-requires c = let n = next_block c.shape-shape.result.pages c.args.block.0 c.shape-shape.result.blocks (omega arith) in search rules
 
-pub put-blank-requires : goal.put-blank-requires
-put-blank-requires c = let n = next_block c.shape-shape.result.pages c.args.block.0 c.shape-shape.result.blocks (omega arith) in search rules
+pub put_blank-requires : goal.put_blank-requires
+put_blank-requires c = let n = next_block c.shape-shape.result.pages c.args.block.0 c.shape-shape.result.blocks (omega arith) in search rules
 
 pub returns : goal.returns
 returns c =

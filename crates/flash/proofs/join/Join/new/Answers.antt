@@ -7,7 +7,7 @@ pub returns : goal.returns
 returns g c = record {
   made = refl;
   proper = joined_proper (g.First.Device.flash c.args.first) (g.Second.Device.flash c.args.second);
-  no-first = without_first (g.First.Device.flash c.args.first) (g.Second.Device.flash c.args.second);
+  no_first = without_first (g.First.Device.flash c.args.first) (g.Second.Device.flash c.args.second);
   no_second = without_second (g.First.Device.flash c.args.first) (g.Second.Device.flash c.args.second);
   whole = rejoins (g.First.Device.flash c.args.first) (g.Second.Device.flash c.args.second);
 }

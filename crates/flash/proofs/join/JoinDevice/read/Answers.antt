@@ -10,7 +10,7 @@ returns-in-InFirst g c =
     let b = c.args.block.0 in
     let o = c.args.page.0 in
     let x = c.args.buffer.now in
-    let l = in_first f h b c.in-ok-side.side c.in-InFirst.block c.in-ok-side.ensures c.in-InFirst.is in
+    let l = in_first f h b c.in_ok-side.side c.in-InFirst.block c.in_ok-side.ensures c.in-InFirst.is in
     let k : o < joined_pages f h = omega (arith, c.pages.ensures, c.if-page-pages.false) in
     let d = c.in-InFirst.block.0 in
     record {
@@ -25,7 +25,7 @@ returns-in-InSecond g c =
     let b = c.args.block.0 in
     let o = c.args.page.0 in
     let x = c.args.buffer.now in
-    let l = in_second f h b c.in-ok-side.side c.in-InSecond.block c.in-ok-side.ensures c.in-InSecond.is in
+    let l = in_second f h b c.in_ok-side.side c.in-InSecond.block c.in_ok-side.ensures c.in-InSecond.is in
     let k : o < joined_pages f h = omega (arith, c.pages.ensures, c.if-page-pages.false) in
     let d = c.in-InSecond.block.0 in
     record {

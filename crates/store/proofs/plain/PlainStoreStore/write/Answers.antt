@@ -7,7 +7,7 @@ use Rattle.store.proofs.plain.PlainStoreStore.write.Goals as goal
 
 pub returns : goal.returns
 returns c =
-    let slot = c.in-ok-at.ensures in
+    let slot = c.in_ok-at.ensures in
     let bytes = c.put.ensures ∙ ap (λ at. all_patched c.args.self.now.bytes.now ((at, 1 ∷ []) ∷ (at + 1, c.args.bytes.now) ∷ [])) slot.2 in
     record {
       after = λ _. subst (λ bs. Written (plain_table c.args.self.now.bytes.now) (plain_table bs) c.args.sector.0 c.args.bytes.now None) (sym bytes)

@@ -8,7 +8,7 @@ pub returns : goal.returns
 returns c =
     record {
       blocks = refl;
-      entries = ap entries_view c.push-reserved.ensures.items ∙ views_push (vec_items c.args.self.now.entries) (Live c.args.sector);
-      len = c.push-reserved.ensures.len;
-      room = c.push-reserved.ensures.capacity;
+      entries = ap entries_view c.push_reserved.ensures.items ∙ views_push (vec_items c.args.self.now.entries) (Live c.args.sector);
+      len = c.push_reserved.ensures.len;
+      room = c.push_reserved.ensures.capacity;
     }

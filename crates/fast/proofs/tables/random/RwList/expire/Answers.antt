@@ -8,7 +8,7 @@ pub returns : goal.returns
 returns c =
     record {
       blocks = refl;
-      entries = ap entries_view (taken_back c.expire-entries.new.entries _ _ (omega arith)) ∙ c.expire-entries.ensures ∙ ap (λ es. stale_all (in_run c.args.first.0 c.args.count) (entries_view es)) c.deref-mut.ensures.value;
+      entries = ap entries_view (taken_back c.expire_entries.new.entries _ _ (omega arith)) ∙ c.expire_entries.ensures ∙ ap (λ es. stale_all (in_run c.args.first.0 c.args.count) (entries_view es)) c.deref_mut.ensures.value;
       len = refl;
       room = refl;
     }

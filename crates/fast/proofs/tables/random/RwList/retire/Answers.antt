@@ -11,10 +11,10 @@ returns c =
     record {
       block = getD_numbers (vec_items s.blocks) 0 c.remove.result some c.remove.ensures.value;
       blocks = c.remove.ensures.by_index.2;
-      blocks-len = c.remove.ensures.len;
-      blocks-room = c.remove.ensures.capacity;
+      blocks_len = c.remove.ensures.len;
+      blocks_room = c.remove.ensures.capacity;
       entries =
-          c.truncate.ensures.items ∙ ap (take (c.len.result - c.args.pages)) c.rotate-left.ensures.items
+          c.truncate.ensures.items ∙ ap (take (c.len.result - c.args.pages)) c.rotate_left.ensures.items
           ∙ rotated c.args.pages (c.len.result - c.args.pages) (vec_items s.entries) (omega (arith, c.requires.long, s.entries.ok.0)) left;
-      room = c.truncate.ensures.capacity ∙ c.rotate-left.ensures.capacity;
+      room = c.truncate.ensures.capacity ∙ c.rotate_left.ensures.capacity;
     }
