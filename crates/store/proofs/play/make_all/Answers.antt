@@ -10,14 +10,14 @@ use Rattle.store.proofs.play.make_all.Goals as goal
 pub loop-next-init : goal.loop-next-init
 loop-next-init g c =
     let t = g.S.Store.table c.args.store.now in
-    let i = c.into-iter-next-iterator in
+    let i = c.into_iter-next-iterator in
     let all = into_iter_items i.result in (
       tt,
       tt,
       λ _. subst (λ rs. Playing t all t all rs) (sym c.requires.none) (plays_first t all),
       λ v. v,
       refl,
-      omega (arith, i.ensures.into-iter-gives.1, ap length i.ensures.into-iter-gives.0, c.args.calls.ok.0),
+      omega (arith, i.ensures.into_iter-gives.1, ap length i.ensures.into_iter-gives.0, c.args.calls.ok.0),
       omega (arith, ap length c.requires.none),
     )
 
@@ -27,7 +27,7 @@ loop-next-preserved g c =
     let s = c.in-Some.ensures.steps in (
       tt,
       tt,
-      λ v. plays_more (table c.args.store.now) (into_iter_items c.into-iter-next-iterator.result) (table c.loop-next.store) (table c.make-reply.new.store) (into_iter_items c.loop-next.next-iterator) (into_iter_items c.next.new.self) c.in-Some.next (vec_items c.loop-next.replies) (vec_items c.push_reserved.new.self) c.make-reply.result
+      λ v. plays_more (table c.args.store.now) (into_iter_items c.into_iter-next-iterator.result) (table c.loop-next.store) (table c.make-reply.new.store) (into_iter_items c.loop-next.next-iterator) (into_iter_items c.next.new.self) c.in-Some.next (vec_items c.loop-next.replies) (vec_items c.push_reserved.new.self) c.make-reply.result
           s.0 (c.make-reply.ensures.made (c.loop-next.invariant.3 v)) c.push_reserved.ensures.items (c.loop-next.invariant.2 v),
       λ v. c.make-reply.ensures.stays (c.loop-next.invariant.3 v),
       c.push_reserved.ensures.capacity ∙ c.loop-next.invariant.4,
@@ -43,7 +43,7 @@ push_reserved-requires g c =
       ap length c.in-Some.ensures.steps.0,
       c.loop-next.invariant.4,
       c.requires.room,
-      ap length c.into-iter-next-iterator.ensures.into-iter-gives.0,
+      ap length c.into_iter-next-iterator.ensures.into_iter-gives.0,
       c.args.calls.ok.0,
       c.loop-next.replies.ok.0,
     )
@@ -52,8 +52,8 @@ pub returns : goal.returns
 returns g c =
     let table = g.S.Store.table in
     record {
-      law = λ v. subst (λ cs. AllAnswered (ledger_of (table c.args.store.now)) (calls_told cs) (replies_told (vec_items c.loop-next.replies))) c.into-iter-next-iterator.ensures.into-iter-gives.0
-          (plays_out (table c.args.store.now) (into_iter_items c.into-iter-next-iterator.result) (table c.loop-next.store) (into_iter_items c.loop-next.next-iterator) (vec_items c.loop-next.replies)
+      law = λ v. subst (λ cs. AllAnswered (ledger_of (table c.args.store.now)) (calls_told cs) (replies_told (vec_items c.loop-next.replies))) c.into_iter-next-iterator.ensures.into_iter-gives.0
+          (plays_out (table c.args.store.now) (into_iter_items c.into_iter-next-iterator.result) (table c.loop-next.store) (into_iter_items c.loop-next.next-iterator) (vec_items c.loop-next.replies)
           (omega (arith, c.in-None.ensures.steps.0, c.loop-next.invariant.5)) (c.loop-next.invariant.2 v));
       stays = c.loop-next.invariant.3;
     }

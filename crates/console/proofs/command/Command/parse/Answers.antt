@@ -27,6 +27,6 @@ returns-in-119 c =
     let e = c.parse_write.ensures ∙ ap said_write (take_rest c.args.line.now 2) ∙ sym (said_w c.args.line.now (omega arith) (omega arith) (omega arith)) in
     record { command = e; law = spelling _ _ e }
 
-pub returns-in-default : goal.returns-in-default
+pub returns-in_default : goal.returns-in_default
 unfolding said
-returns-in-default c = record { command = search rules; law = spelling _ _ (search rules) }
+returns-in_default c = record { command = search rules; law = spelling _ _ (search rules) }

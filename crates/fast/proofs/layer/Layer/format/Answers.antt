@@ -15,7 +15,7 @@ returns-in-Err g c =
 pub invariant-of-sizes : goal.invariant-of-sizes
 invariant-of-sizes g c =
     let f = g.D.Device.flash c.args.device in
-    let h = fits f c.args.logical c.args.random (sym c.in-default.ensures.answer) in (
+    let h = fits f c.args.logical c.args.random (sym c.in_default.ensures.answer) in (
       (omega (arith, h.pages, c.pages.ensures), omega (arith, h.few_pages, c.pages.ensures)),
       (
         (h.some_L, h.few_L),
@@ -33,5 +33,5 @@ pub returns-in-Ok : goal.returns-in-Ok
 returns-in-Ok g c =
     let f = g.D.Device.flash c.args.device in
     let s = c.in-Ok.ensures in
-    let e = formats_well f c.args.logical c.args.random c.args.first c.in-default.ensures.answer (g.D.Device.flash c.erase_all.new.device) c.in-Ok.tables c.blocks-2.result c.blocks-2.ensures (ap pages_of s.1 ∙ c.pages.ensures) (ap logical_of s.1) (ap random_of s.1) s.0 c.erase_all.ensures in
+    let e = formats_well f c.args.logical c.args.random c.args.first c.in_default.ensures.answer (g.D.Device.flash c.erase_all.new.device) c.in-Ok.tables c.blocks-2.result c.blocks-2.ensures (ap pages_of s.1 ∙ c.pages.ensures) (ap logical_of s.1) (ap random_of s.1) s.0 c.erase_all.ensures in
     record { after = e; law = begun _ _ e; untouched = tt }

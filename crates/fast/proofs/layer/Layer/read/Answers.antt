@@ -6,12 +6,12 @@ use Rattle.fast.specs.Told.{meant}
 use Rattle.fast.proofs.Turns.{read_lawful, read_no_sector, read_no_buffer, read_shows}
 use Rattle.fast.proofs.layer.Layer.read.Goals as goal
 
-pub returns-in-default : goal.returns-in-default
-returns-in-default g c =
+pub returns-in_default : goal.returns-in_default
+returns-in_default g c =
     let f = g.D.Device.flash c.args.self.now.device in
     let n = c.args.sector.0 in
     let x = c.args.buffer.now in
-    let e = subst (λ q. record { answer = refused 13; buffer = x } ≡ (call (meant f q) (read n x)).reply) (sym c.in-default.is) (read_no_sector (meant f None) n x (omega arith)) in
+    let e = subst (λ q. record { answer = refused 13; buffer = x } ≡ (call (meant f q) (read n x)).reply) (sym c.in_default.is) (read_no_sector (meant f None) n x (omega arith)) in
     record { reply = e; law = read_lawful _ n x _ e }
 
 pub returns-then-sector-sizes : goal.returns-then-sector-sizes

@@ -4,15 +4,15 @@ use Rattle.fast.specs.Told.{meant, refusal_number}
 use Rattle.fast.proofs.Turns.{lawful, Written, refused_write, no_sectors, accepted_write}
 use Rattle.fast.proofs.layer.Layer.write.Goals as goal
 
-pub returns-in-default : goal.returns-in-default
-returns-in-default g c =
+pub returns-in_default : goal.returns-in_default
+returns-in_default g c =
     let f = g.D.Device.flash c.args.self.now.device in
     let n = c.args.sector.0 in
     let x = c.args.bytes.now in
     let r : Reply = record { answer = refused 13; buffer = x } in
     let w : Written (meant f c.args.self.now.tables) (meant f c.take.new.self) n x r =
-    subst (λ q. Written (meant f q) (meant f c.take.new.self) n x r) c.in-default.ensures.value
-    (refused_write (meant f None) (meant f c.take.new.self) n 13 x (no_sectors f n x) (ap (meant f) c.in-default.ensures.after)) in
+    subst (λ q. Written (meant f q) (meant f c.take.new.self) n x r) c.in_default.ensures.value
+    (refused_write (meant f None) (meant f c.take.new.self) n 13 x (no_sectors f n x) (ap (meant f) c.in_default.ensures.after)) in
     record { reply = w.reply; after = w.after; law = lawful _ _ (write n x) r w.reply w.after }
 
 pub returns-in-Err : goal.returns-in-Err

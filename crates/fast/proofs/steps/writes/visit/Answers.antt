@@ -6,12 +6,12 @@ use Rattle.fast.specs.declared.tables.random.Entry.TheVariants.{Live, Stale}
 use Rattle.fast.proofs.Visited.{view_at, live_known, visits_live, visits_stale}
 use Rattle.fast.proofs.steps.writes.visit.Goals as goal
 
-pub returns-in-default : goal.returns-in-default
-returns-in-default g c =
+pub returns-in_default : goal.returns-in_default
+returns-in_default g c =
     let t = c.args.tables in
     let h : c.args.i < length (vec_items t.rw.entries) = omega (arith, t.rw.entries.ok.0, c.requires.within) in
     record {
-      work = visits_stale t.sizes.pages c.args.i (g.D.Device.flash c.args.device.now) (view_of t) (view_at (vec_items t.rw.entries) c.args.i c.index.result.now Stale h c.index.ensures c.in-default.is);
+      work = visits_stale t.sizes.pages c.args.i (g.D.Device.flash c.args.device.now) (view_of t) (view_at (vec_items t.rw.entries) c.args.i c.index.result.now Stale h c.index.ensures c.in_default.is);
       few = (omega arith, omega arith);
       sized = (refl, refl);
       logged = (refl, refl);

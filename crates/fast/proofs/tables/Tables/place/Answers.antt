@@ -5,10 +5,10 @@ use Rattle.fast.specs.Views.{sw_view}
 use Rattle.fast.proofs.Places.{place_none, place_other, place_here}
 use Rattle.fast.proofs.tables.Tables.place.Goals as goal
 
-pub returns-in-default : goal.returns-in-default
-returns-in-default c =
+pub returns-in_default : goal.returns-in_default
+returns-in_default c =
     let t = c.args.self.now in
-    let e = place_none t.sizes.pages (view_of t) c.args.c.0 c.args.o.0 (ap sw_view c.in-default.is) in
+    let e = place_none t.sizes.pages (view_of t) c.args.c.0 c.args.o.0 (ap sw_view c.in_default.is) in
     record { block = c.behind.ensures.block ∙ ap (λ (a : Place). a.block) e; page = c.behind.ensures.page ∙ ap (λ (a : Place). a.page) e }
 
 pub returns-then-has : goal.returns-then-has

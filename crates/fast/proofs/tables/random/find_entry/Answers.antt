@@ -1,7 +1,7 @@
 use Rattle.std.proofs.Common.{sym, ◌∙◌}
 use Rattle.fast.proofs.Entries.{finds, passes_live, passes_stale, ends_none}
 use Rattle.fast.proofs.tables.random.find_entry.Goals as goal
-use Rattle.fast.proofs.tables.random.find_entry.Goals.{in-Live+else-n-sector, in-default}
+use Rattle.fast.proofs.tables.random.find_entry.Goals.{in-Live+else-n-sector, in_default}
 
 pub returns-then-n-sector : goal.returns-then-n-sector
 returns-then-n-sector c =
@@ -16,7 +16,7 @@ pub loop-i-preserved : goal.loop-i-preserved
 loop-i-preserved c =
     (elim c.match-e.branch [
       | in-Live+else-n-sector w ↦ passes_live c.args.sector.0 c.loop-i.i c.args.entries.now _ c.loop-i-test.true w.in-Live.n w.in-Live.is w.if-n-sector.false
-      | in-default w ↦ passes_stale c.args.sector.0 c.loop-i.i c.args.entries.now _ c.loop-i-test.true w.in-default.is
+      | in_default w ↦ passes_stale c.args.sector.0 c.loop-i.i c.args.entries.now _ c.loop-i-test.true w.in_default.is
     ])
     ∙ c.loop-i.invariant
 
