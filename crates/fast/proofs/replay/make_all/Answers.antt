@@ -11,7 +11,7 @@ loop-next-init g c =
     let y = layer_of g.D.Device.flash c.args.layer.now in
     let i = c.into_iter-next-iterator in
     let all = into_iter_items i.result in
-    (tt, tt, subst (λ rs. Playing y all y all rs) (sym c.requires.none) (plays_first y all), refl, omega (arith, i.ensures.into_iter-gives.1, ap length i.ensures.into_iter-gives.0, c.args.calls.ok.0))
+    (tt, tt, subst (λ rs. Playing y all y all rs) (sym c.requires.none) (plays_first y all), refl, omega (arith, i.ensures.into_iter_gives.1, ap length i.ensures.into_iter_gives.0, c.args.calls.ok.0))
 
 pub loop-next-preserved : goal.loop-next-preserved
 loop-next-preserved g c =
@@ -33,7 +33,7 @@ push_reserved-requires g c =
       ap length c.in-Some.ensures.steps.0,
       c.loop-next.invariant.3,
       c.requires.room,
-      ap length c.into_iter-next-iterator.ensures.into_iter-gives.0,
+      ap length c.into_iter-next-iterator.ensures.into_iter_gives.0,
       c.args.calls.ok.0,
       c.loop-next.replies.ok.0,
     )
@@ -42,6 +42,6 @@ pub returns : goal.returns
 returns g c =
     let flash = g.D.Device.flash in
     let y = layer_of flash c.args.layer.now in
-    let all = ap calls_told c.into_iter-next-iterator.ensures.into_iter-gives.0 in
+    let all = ap calls_told c.into_iter-next-iterator.ensures.into_iter_gives.0 in
     let p = plays_out y (into_iter_items c.into_iter-next-iterator.result) (layer_of flash c.loop-next.layer) (into_iter_items c.loop-next.next-iterator) (vec_items c.loop-next.replies) (omega (arith, c.in-None.ensures.steps.0, c.loop-next.invariant.4)) c.loop-next.invariant.2 in
     record { after = p.after ∙ ap (last_layer y) all; replies = p.replies ∙ ap (replies_of y) all }

@@ -17,7 +17,7 @@ loop-next-init g c =
       λ _. subst (λ rs. Playing t all t all rs) (sym c.requires.none) (plays_first t all),
       λ v. v,
       refl,
-      omega (arith, i.ensures.into_iter-gives.1, ap length i.ensures.into_iter-gives.0, c.args.calls.ok.0),
+      omega (arith, i.ensures.into_iter_gives.1, ap length i.ensures.into_iter_gives.0, c.args.calls.ok.0),
       omega (arith, ap length c.requires.none),
     )
 
@@ -43,7 +43,7 @@ push_reserved-requires g c =
       ap length c.in-Some.ensures.steps.0,
       c.loop-next.invariant.4,
       c.requires.room,
-      ap length c.into_iter-next-iterator.ensures.into_iter-gives.0,
+      ap length c.into_iter-next-iterator.ensures.into_iter_gives.0,
       c.args.calls.ok.0,
       c.loop-next.replies.ok.0,
     )
@@ -52,7 +52,7 @@ pub returns : goal.returns
 returns g c =
     let table = g.S.Store.table in
     record {
-      law = λ v. subst (λ cs. AllAnswered (ledger_of (table c.args.store.now)) (calls_told cs) (replies_told (vec_items c.loop-next.replies))) c.into_iter-next-iterator.ensures.into_iter-gives.0
+      law = λ v. subst (λ cs. AllAnswered (ledger_of (table c.args.store.now)) (calls_told cs) (replies_told (vec_items c.loop-next.replies))) c.into_iter-next-iterator.ensures.into_iter_gives.0
           (plays_out (table c.args.store.now) (into_iter_items c.into_iter-next-iterator.result) (table c.loop-next.store) (into_iter_items c.loop-next.next-iterator) (vec_items c.loop-next.replies)
           (omega (arith, c.in-None.ensures.steps.0, c.loop-next.invariant.5)) (c.loop-next.invariant.2 v));
       stays = c.loop-next.invariant.3;

@@ -12,22 +12,16 @@ returns-in-Err g c =
     let e = formats_nothing f c.args.logical c.args.random c.args.first (unfit_number c.in-Err.field-0) c.in-Err.ensures.answer in
     record { after = e; law = begun _ _ e; untouched = tt }
 
-pub invariant-of-sizes : goal.invariant-of-sizes
-invariant-of-sizes g c =
+pub invariant_of-sizes : goal.invariant_of-sizes
+invariant_of-sizes g c =
     let f = g.D.Device.flash c.args.device in
-    let h = fits f c.args.logical c.args.random (sym c.in_default.ensures.answer) in (
-      (omega (arith, h.pages, c.pages.ensures), omega (arith, h.few_pages, c.pages.ensures)),
-      (
-        (h.some_L, h.few_L),
-        (
-          (h.some_R, h.few_R),
-          (
-            (omega (arith, h.few_blocks, c.blocks-2.ensures), omega (arith, h.wide, c.blocks-2.ensures)),
-            tt,
-          ),
-        ),
-      ),
-    )
+    let h = fits f c.args.logical c.args.random (sym c.in_default.ensures.answer) in
+    record {
+      pages_fit = (omega (arith, h.pages, c.pages.ensures), omega (arith, h.few_pages, c.pages.ensures));
+      logical_fits = (h.some_L, h.few_L);
+      random_fits = (h.some_R, h.few_R);
+      blocks_fit = (omega (arith, h.few_blocks, c.blocks-2.ensures), omega (arith, h.wide, c.blocks-2.ensures));
+    }
 
 pub returns-in-Ok : goal.returns-in-Ok
 returns-in-Ok g c =

@@ -4,8 +4,8 @@ use Rattle.fast.specs.Views.{entries_view}
 use Rattle.fast.proofs.Counts.{getD_numbers, live_stale, adopted_roles, adopted_led, adopted_view}
 use Rattle.fast.proofs.tables.Tables.adopt.Goals as goal
 
-pub invariant-of-result : goal.invariant-of-result
-invariant-of-result c =
+pub invariant_of-result : goal.invariant_of-result
+invariant_of-result c =
     let t = c.args.self in
     let k = c.args.sw in
     let old = c.index-old.result.now in
@@ -15,43 +15,21 @@ invariant-of-result c =
     let logs = ap vec_items c.expire_block.ensures.blocks in
     let same-logs = ap vec_len c.expire_block.ensures.blocks in
     let is-old = getD_numbers (vec_items t.map) k.owner.0 old h c.index-old.ensures in
-    let free = c.put.ensures.items in (
-      adopted_roles (vec_items t.map) (vec_items t.rw.blocks) (vec_items t.free.blocks) _ _ t.sw k c.requires.has old h is-old logs free t.sizes.blocks t.one_role,
-      (
-        (λ n. omega (arith, ap (live_entries n) c.expire_block.ensures.entries, live_stale (λ n. eqb (n / t.sizes.pages) k.owner.0) n (entries_view (vec_items t.rw.entries)), t.one_live n)),
-        (
-          omega (arith, t.sizes.logical_fits),
-          (
-            (omega arith, omega arith),
-            (
-              t.mapped,
-              (
-                omega (arith, same-logs, gone, c.put.ensures.len, t.all_blocks),
-                (
-                  omega (arith, same-logs, t.few_logs),
-                  (
-                    search rules,
-                    (
-                      search rules,
-                      (
-                        search rules,
-                        (
-                          search rules,
-                          (
-                            search rules,
-                            tt,
-                          ),
-                        ),
-                      ),
-                    ),
-                  ),
-                ),
-              ),
-            ),
-          ),
-        ),
-      ),
-    )
+    let free = c.put.ensures.items in
+    record {
+      one_role = adopted_roles (vec_items t.map) (vec_items t.rw.blocks) (vec_items t.free.blocks) _ _ t.sw k c.requires.has old h is-old logs free t.sizes.blocks t.one_role;
+      one_live = (λ n. omega (arith, ap (live_entries n) c.expire_block.ensures.entries, live_stale (λ n. eqb (n / t.sizes.pages) k.owner.0) n (entries_view (vec_items t.rw.entries)), t.one_live n));
+      owned = omega (arith, t.sizes.logical_fits);
+      filled = (omega arith, omega arith);
+      mapped = t.mapped;
+      all_blocks = omega (arith, same-logs, gone, c.put.ensures.len, t.all_blocks);
+      few_logs = omega (arith, same-logs, t.few_logs);
+      entries_fit = search rules;
+      logs_full = search rules;
+      room_logs = search rules;
+      room_entries = search rules;
+      room_free = search rules;
+    }
 
 pub returns : goal.returns
 returns c =

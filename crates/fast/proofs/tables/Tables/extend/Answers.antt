@@ -7,49 +7,27 @@ use Rattle.fast.specs.declared.numbers.LogicalBlock.{LogicalBlock}
 use Rattle.fast.proofs.Counts.{live_stale}
 use Rattle.fast.proofs.tables.Tables.extend.Goals as goal
 
-pub invariant-of-result : goal.invariant-of-result
-invariant-of-result c =
+pub invariant_of-result : goal.invariant_of-result
+invariant_of-result c =
     let t = c.args.self in
     let k = c.args.sw in
     let stale = c.expire_sector.ensures.entries in
     let logs = ap vec_items c.expire_sector.ensures.blocks in
-    let same-logs = ap vec_len c.expire_sector.ensures.blocks in (
-      (λ b. omega (arith, t.one_role b, ap (uses b) logs, ap (uses_sw b) c.requires.has, ap (λ (x : Block). same b x.0) c.extend.ensures.block)),
-      (
-        (λ n. omega (arith, ap (live_entries n) stale, live_stale (λ m. eqb m c.args.taken.0) n (entries_view (vec_items t.rw.entries)), t.one_live n)),
-        (
-          omega (arith, t.owned, ap owner_of c.requires.has, ap (λ (x : LogicalBlock). x.0) c.extend.ensures.owner),
-          (
-            (omega (arith, c.extend.ensures.fill), omega (arith, c.extend.ensures.fill, c.requires.short)),
-            (
-              t.mapped,
-              (
-                omega (arith, t.all_blocks, same-logs, ap busy c.requires.has),
-                (
-                  omega (arith, same-logs, t.few_logs),
-                  (
-                    search rules,
-                    (
-                      search rules,
-                      (
-                        search rules,
-                        (
-                          search rules,
-                          (
-                            search rules,
-                            tt,
-                          ),
-                        ),
-                      ),
-                    ),
-                  ),
-                ),
-              ),
-            ),
-          ),
-        ),
-      ),
-    )
+    let same-logs = ap vec_len c.expire_sector.ensures.blocks in
+    record {
+      one_role = (λ b. omega (arith, t.one_role b, ap (uses b) logs, ap (uses_sw b) c.requires.has, ap (λ (x : Block). same b x.0) c.extend.ensures.block));
+      one_live = (λ n. omega (arith, ap (live_entries n) stale, live_stale (λ m. eqb m c.args.taken.0) n (entries_view (vec_items t.rw.entries)), t.one_live n));
+      owned = omega (arith, t.owned, ap owner_of c.requires.has, ap (λ (x : LogicalBlock). x.0) c.extend.ensures.owner);
+      filled = (omega (arith, c.extend.ensures.fill), omega (arith, c.extend.ensures.fill, c.requires.short));
+      mapped = t.mapped;
+      all_blocks = omega (arith, t.all_blocks, same-logs, ap busy c.requires.has);
+      few_logs = omega (arith, same-logs, t.few_logs);
+      entries_fit = search rules;
+      logs_full = search rules;
+      room_logs = search rules;
+      room_entries = search rules;
+      room_free = search rules;
+    }
 
 pub returns : goal.returns
 returns c =

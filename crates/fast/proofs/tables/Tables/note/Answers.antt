@@ -12,50 +12,28 @@ append-requires c =
     let m : t.sizes.pages * vec_len t.rw.blocks ≤ t.sizes.pages * t.sizes.random = mul-le-mul_left t.sizes.pages t.few_logs in
     omega (arith, m, c.expire_sector.ensures.len, c.expire_sector.ensures.room, c.requires.room, t.room_entries)
 
-pub invariant-of-result : goal.invariant-of-result
-invariant-of-result c =
+pub invariant_of-result : goal.invariant_of-result
+invariant_of-result c =
     let t = c.args.self in
     let stale = c.expire_sector.ensures.entries in
     let logs = ap vec_items (c.append.ensures.blocks ∙ c.expire_sector.ensures.blocks) in
     let same-logs = ap vec_len (c.append.ensures.blocks ∙ c.expire_sector.ensures.blocks) in
     let more = ap (λ n. t.sizes.pages * n) same-logs in
-    let e = c.append.ensures.entries ∙ ap (λ es. es ++ (live c.args.sector.0 ∷ [])) stale in (
-      (λ b. omega (arith, t.one_role b, ap (uses b) logs)),
-      (
-        noted_live (t.sizes.logical * t.sizes.pages) c.args.sector.0 (entries_view (vec_items t.rw.entries)) _ c.requires.known t.one_live e,
-        (
-          t.owned,
-          (
-            t.filled,
-            (
-              t.mapped,
-              (
-                omega (arith, t.all_blocks, same-logs),
-                (
-                  omega (arith, same-logs, t.few_logs),
-                  (
-                    omega (arith, more, c.append.ensures.len, c.expire_sector.ensures.len, c.requires.room),
-                    (
-                      omega (arith, more, c.append.ensures.len, c.expire_sector.ensures.len, t.logs_full),
-                      (
-                        search rules,
-                        (
-                          search rules,
-                          (
-                            search rules,
-                            tt,
-                          ),
-                        ),
-                      ),
-                    ),
-                  ),
-                ),
-              ),
-            ),
-          ),
-        ),
-      ),
-    )
+    let e = c.append.ensures.entries ∙ ap (λ es. es ++ (live c.args.sector.0 ∷ [])) stale in
+    record {
+      one_role = (λ b. omega (arith, t.one_role b, ap (uses b) logs));
+      one_live = noted_live (t.sizes.logical * t.sizes.pages) c.args.sector.0 (entries_view (vec_items t.rw.entries)) _ c.requires.known t.one_live e;
+      owned = t.owned;
+      filled = t.filled;
+      mapped = t.mapped;
+      all_blocks = omega (arith, t.all_blocks, same-logs);
+      few_logs = omega (arith, same-logs, t.few_logs);
+      entries_fit = omega (arith, more, c.append.ensures.len, c.expire_sector.ensures.len, c.requires.room);
+      logs_full = omega (arith, more, c.append.ensures.len, c.expire_sector.ensures.len, t.logs_full);
+      room_logs = search rules;
+      room_entries = search rules;
+      room_free = search rules;
+    }
 
 pub returns : goal.returns
 returns c =

@@ -4,51 +4,29 @@ use Rattle.fast.specs.Views.{entries_view}
 use Rattle.fast.proofs.Counts.{getD_numbers, renewed_roles, renewed_led, renewed_view, live_stale}
 use Rattle.fast.proofs.tables.Tables.renew.Goals as goal
 
-pub invariant-of-result : goal.invariant-of-result
-invariant-of-result c =
+pub invariant_of-result : goal.invariant_of-result
+invariant_of-result c =
     let t = c.args.self in
     let old = c.index-old.result.now in
     let h : c.args.c.0 < length (vec_items t.map) = omega (arith, t.map.ok.0, t.mapped, c.requires.known) in
     let k : 0 < length (vec_items t.free.blocks) = omega (arith, t.free.blocks.ok.0, c.requires.some) in
     let free = c.put.ensures.items ∙ ap (λ xs. xs ++ (old ∷ [])) c.take-new.ensures.items in
     let logs = ap vec_items c.expire_block.ensures.blocks in
-    let same-logs = ap vec_len c.expire_block.ensures.blocks in (
-      renewed_roles (vec_items t.map) (vec_items t.rw.blocks) (vec_items t.free.blocks) _ _ c.args.c.0 c.take-new.result old h k c.take-new.ensures.block (getD_numbers (vec_items t.map) c.args.c.0 old h c.index-old.ensures) logs free t.sizes.blocks t.sw t.one_role,
-      (
-        (λ n. omega (arith, ap (live_entries n) c.expire_block.ensures.entries, live_stale (λ n. eqb (n / t.sizes.pages) c.args.c.0) n (entries_view (vec_items t.rw.entries)), t.one_live n)),
-        (
-          t.owned,
-          (
-            t.filled,
-            (
-              t.mapped,
-              (
-                omega (arith, same-logs, c.put.ensures.len, c.take-new.ensures.len, t.all_blocks),
-                (
-                  omega (arith, same-logs, t.few_logs),
-                  (
-                    search rules,
-                    (
-                      search rules,
-                      (
-                        search rules,
-                        (
-                          search rules,
-                          (
-                            search rules,
-                            tt,
-                          ),
-                        ),
-                      ),
-                    ),
-                  ),
-                ),
-              ),
-            ),
-          ),
-        ),
-      ),
-    )
+    let same-logs = ap vec_len c.expire_block.ensures.blocks in
+    record {
+      one_role = renewed_roles (vec_items t.map) (vec_items t.rw.blocks) (vec_items t.free.blocks) _ _ c.args.c.0 c.take-new.result old h k c.take-new.ensures.block (getD_numbers (vec_items t.map) c.args.c.0 old h c.index-old.ensures) logs free t.sizes.blocks t.sw t.one_role;
+      one_live = (λ n. omega (arith, ap (live_entries n) c.expire_block.ensures.entries, live_stale (λ n. eqb (n / t.sizes.pages) c.args.c.0) n (entries_view (vec_items t.rw.entries)), t.one_live n));
+      owned = t.owned;
+      filled = t.filled;
+      mapped = t.mapped;
+      all_blocks = omega (arith, same-logs, c.put.ensures.len, c.take-new.ensures.len, t.all_blocks);
+      few_logs = omega (arith, same-logs, t.few_logs);
+      entries_fit = search rules;
+      logs_full = search rules;
+      room_logs = search rules;
+      room_entries = search rules;
+      room_free = search rules;
+    }
 
 pub returns : goal.returns
 returns c =

@@ -4,8 +4,8 @@ use Rattle.fast.specs.Views.{entries_view}
 use Rattle.fast.proofs.Counts.{getD_numbers, live_stale, replaced_roles, replaced_led, replaced_view}
 use Rattle.fast.proofs.tables.Tables.replace.Goals as goal
 
-pub invariant-of-result : goal.invariant-of-result
-invariant-of-result c =
+pub invariant_of-result : goal.invariant_of-result
+invariant_of-result c =
     let t = c.args.self in
     let k = c.args.sw in
     let old = c.index-old.result.now in
@@ -16,43 +16,21 @@ invariant-of-result c =
     let same-logs = ap vec_len c.expire_block.ensures.blocks in
     let is-old = getD_numbers (vec_items t.map) k.owner.0 old h c.index-old.ensures in
     let some : 0 < length (vec_items t.free.blocks) = omega (arith, t.free.blocks.ok.0, c.requires.some) in
-    let free = c.put-2.ensures.items ∙ ap (λ xs. xs ++ (k.block ∷ [])) (c.put.ensures.items ∙ ap (λ xs. xs ++ (old ∷ [])) c.take-new.ensures.items) in (
-      replaced_roles (vec_items t.map) (vec_items t.rw.blocks) (vec_items t.free.blocks) _ _ t.sw k c.requires.has c.take-new.result old h some c.take-new.ensures.block is-old logs free t.sizes.blocks t.one_role,
-      (
-        (λ n. omega (arith, ap (live_entries n) c.expire_block.ensures.entries, live_stale (λ n. eqb (n / t.sizes.pages) k.owner.0) n (entries_view (vec_items t.rw.entries)), t.one_live n)),
-        (
-          omega (arith, t.sizes.logical_fits),
-          (
-            (omega arith, omega arith),
-            (
-              t.mapped,
-              (
-                omega (arith, same-logs, gone, c.put.ensures.len, c.put-2.ensures.len, c.take-new.ensures.len, t.all_blocks),
-                (
-                  omega (arith, same-logs, t.few_logs),
-                  (
-                    search rules,
-                    (
-                      search rules,
-                      (
-                        search rules,
-                        (
-                          search rules,
-                          (
-                            search rules,
-                            tt,
-                          ),
-                        ),
-                      ),
-                    ),
-                  ),
-                ),
-              ),
-            ),
-          ),
-        ),
-      ),
-    )
+    let free = c.put-2.ensures.items ∙ ap (λ xs. xs ++ (k.block ∷ [])) (c.put.ensures.items ∙ ap (λ xs. xs ++ (old ∷ [])) c.take-new.ensures.items) in
+    record {
+      one_role = replaced_roles (vec_items t.map) (vec_items t.rw.blocks) (vec_items t.free.blocks) _ _ t.sw k c.requires.has c.take-new.result old h some c.take-new.ensures.block is-old logs free t.sizes.blocks t.one_role;
+      one_live = (λ n. omega (arith, ap (live_entries n) c.expire_block.ensures.entries, live_stale (λ n. eqb (n / t.sizes.pages) k.owner.0) n (entries_view (vec_items t.rw.entries)), t.one_live n));
+      owned = omega (arith, t.sizes.logical_fits);
+      filled = (omega arith, omega arith);
+      mapped = t.mapped;
+      all_blocks = omega (arith, same-logs, gone, c.put.ensures.len, c.put-2.ensures.len, c.take-new.ensures.len, t.all_blocks);
+      few_logs = omega (arith, same-logs, t.few_logs);
+      entries_fit = search rules;
+      logs_full = search rules;
+      room_logs = search rules;
+      room_entries = search rules;
+      room_free = search rules;
+    }
 
 pub returns : goal.returns
 returns c =

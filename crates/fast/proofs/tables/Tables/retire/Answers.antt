@@ -6,49 +6,27 @@ use Rattle.fast.proofs.Counts.{live_drop, moved, numbers_moved, numbers_rest, re
 use Rattle.fast.proofs.Entries.{views_drop}
 use Rattle.fast.proofs.tables.Tables.retire.Goals as goal
 
-pub invariant-of-result : goal.invariant-of-result
-invariant-of-result c =
+pub invariant_of-result : goal.invariant_of-result
+invariant_of-result c =
     let t = c.args.self in
     let some : 0 < length (vec_items t.rw.blocks) = omega (arith, t.rw.blocks.ok.0, c.requires.some) in
     let e = ap entries_view c.retire-block.ensures.entries ∙ views_drop t.sizes.pages (vec_items t.rw.entries) in
     let len : vec_len c.retire-block.new.self.entries ≡ vec_len t.rw.entries - t.sizes.pages = omega (arith, ap length c.retire-block.ensures.entries, length-drop t.sizes.pages (vec_items t.rw.entries), t.rw.entries.ok.0, c.retire-block.new.self.entries.ok.0) in
-    let more = ap (λ n. t.sizes.pages * n) c.retire-block.ensures.blocks_len in (
-      (λ b. omega (arith, t.one_role b, moved b (vec_items t.rw.blocks) (vec_items t.free.blocks) _ _ c.retire-block.result some c.retire-block.ensures.block c.retire-block.ensures.blocks c.put.ensures.items)),
-      (
-        (λ n. omega (arith, ap (live_entries n) e, live_drop n t.sizes.pages (entries_view (vec_items t.rw.entries)), t.one_live n)),
-        (
-          t.owned,
-          (
-            t.filled,
-            (
-              t.mapped,
-              (
-                omega (arith, t.all_blocks, c.retire-block.ensures.blocks_len, c.put.ensures.len),
-                (
-                  omega (arith, c.retire-block.ensures.blocks_len, t.few_logs),
-                  (
-                    omega (arith, more, len, t.entries_fit),
-                    (
-                      omega (arith, more, len, t.logs_full),
-                      (
-                        search rules,
-                        (
-                          search rules,
-                          (
-                            search rules,
-                            tt,
-                          ),
-                        ),
-                      ),
-                    ),
-                  ),
-                ),
-              ),
-            ),
-          ),
-        ),
-      ),
-    )
+    let more = ap (λ n. t.sizes.pages * n) c.retire-block.ensures.blocks_len in
+    record {
+      one_role = (λ b. omega (arith, t.one_role b, moved b (vec_items t.rw.blocks) (vec_items t.free.blocks) _ _ c.retire-block.result some c.retire-block.ensures.block c.retire-block.ensures.blocks c.put.ensures.items));
+      one_live = (λ n. omega (arith, ap (live_entries n) e, live_drop n t.sizes.pages (entries_view (vec_items t.rw.entries)), t.one_live n));
+      owned = t.owned;
+      filled = t.filled;
+      mapped = t.mapped;
+      all_blocks = omega (arith, t.all_blocks, c.retire-block.ensures.blocks_len, c.put.ensures.len);
+      few_logs = omega (arith, c.retire-block.ensures.blocks_len, t.few_logs);
+      entries_fit = omega (arith, more, len, t.entries_fit);
+      logs_full = omega (arith, more, len, t.logs_full);
+      room_logs = search rules;
+      room_entries = search rules;
+      room_free = search rules;
+    }
 
 pub returns : goal.returns
 returns c =

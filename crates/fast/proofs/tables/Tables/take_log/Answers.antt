@@ -5,48 +5,26 @@ use Rattle.fast.specs.Views.{numbers, entries_view}
 use Rattle.fast.proofs.Counts.{moved, numbers_moved, numbers_rest, logged_led}
 use Rattle.fast.proofs.tables.Tables.take_log.Goals as goal
 
-pub invariant-of-result : goal.invariant-of-result
-invariant-of-result c =
+pub invariant_of-result : goal.invariant_of-result
+invariant_of-result c =
     let t = c.args.self in
     let some : 0 < length (vec_items t.free.blocks) = omega (arith, t.free.blocks.ok.0, c.requires.some) in
     let same_entries = ap vec_len c.add.ensures.entries in
-    let more = ap (λ n. t.sizes.pages * n) c.add.ensures.len in (
-      (λ b. omega (arith, t.one_role b, moved b (vec_items t.free.blocks) (vec_items t.rw.blocks) _ _ c.take-block.result some c.take-block.ensures.block c.take-block.ensures.items c.add.ensures.blocks)),
-      (
-        (λ n. omega (arith, ap (λ v. live_entries n (entries_view (vec_items v))) c.add.ensures.entries, t.one_live n)),
-        (
-          t.owned,
-          (
-            t.filled,
-            (
-              t.mapped,
-              (
-                omega (arith, t.all_blocks, c.add.ensures.len, c.take-block.ensures.len),
-                (
-                  omega (arith, c.add.ensures.len, c.requires.fewer),
-                  (
-                    omega (arith, more, same_entries, t.entries_fit),
-                    (
-                      omega (arith, more, same_entries, c.requires.full),
-                      (
-                        search rules,
-                        (
-                          search rules,
-                          (
-                            search rules,
-                            tt,
-                          ),
-                        ),
-                      ),
-                    ),
-                  ),
-                ),
-              ),
-            ),
-          ),
-        ),
-      ),
-    )
+    let more = ap (λ n. t.sizes.pages * n) c.add.ensures.len in
+    record {
+      one_role = (λ b. omega (arith, t.one_role b, moved b (vec_items t.free.blocks) (vec_items t.rw.blocks) _ _ c.take-block.result some c.take-block.ensures.block c.take-block.ensures.items c.add.ensures.blocks));
+      one_live = (λ n. omega (arith, ap (λ v. live_entries n (entries_view (vec_items v))) c.add.ensures.entries, t.one_live n));
+      owned = t.owned;
+      filled = t.filled;
+      mapped = t.mapped;
+      all_blocks = omega (arith, t.all_blocks, c.add.ensures.len, c.take-block.ensures.len);
+      few_logs = omega (arith, c.add.ensures.len, c.requires.fewer);
+      entries_fit = omega (arith, more, same_entries, t.entries_fit);
+      logs_full = omega (arith, more, same_entries, c.requires.full);
+      room_logs = search rules;
+      room_entries = search rules;
+      room_free = search rules;
+    }
 
 pub returns : goal.returns
 returns c =

@@ -4,5 +4,5 @@ use Rattle.flash.proofs.chip.ImageChipDevice.count.Goals as goal
 
 pub returns : goal.returns
 returns c =
-    let e = chip_count c.args.self.now.bytes.now c.args.self.now.geometry c.shape.result (c.shape.ensures.own_val (omega arith)) (c.shape.ensures.fits (omega arith)) c.args.block.0 (omega arith) in
+    let e = chip_count c.args.self.now.bytes.now c.args.self.now.geometry c.shape.result (c.shape.ensures.own (omega arith)) (c.shape.ensures.fits (omega arith)) c.args.block.0 (omega arith) in
     search rules

@@ -6,12 +6,12 @@ use Rattle.flash.proofs.chip.ImageChipDevice.read.Goals as goal
 
 pub returns-then-sector : goal.returns-then-sector
 returns-then-sector c =
-    let e = chip_blank c.args.self.now.bytes.now c.args.self.now.geometry c.shape-shape.result (c.shape-shape.ensures.own_val (omega arith)) (c.shape-shape.ensures.fits (omega arith)) c.args.block.0 c.args.page.0 (omega arith) (omega arith) (search rules) in
+    let e = chip_blank c.args.self.now.bytes.now c.args.self.now.geometry c.shape-shape.result (c.shape-shape.ensures.own (omega arith)) (c.shape-shape.ensures.fits (omega arith)) c.args.block.0 c.args.page.0 (omega arith) (omega arith) (search rules) in
     search rules
 
 pub returns : goal.returns
 returns c =
-    let e = chip_holds c.args.self.now.bytes.now c.args.self.now.geometry c.shape-shape.result (c.shape-shape.ensures.own_val (omega arith)) (c.shape-shape.ensures.fits (omega arith)) c.args.block.0 c.args.page.0 (omega arith) (omega arith) (search rules) in
+    let e = chip_holds c.args.self.now.bytes.now c.args.self.now.geometry c.shape-shape.result (c.shape-shape.ensures.own (omega arith)) (c.shape-shape.ensures.fits (omega arith)) c.args.block.0 c.args.page.0 (omega arith) (omega arith) (search rules) in
     record {
       answer =
           let r = read_good (chip_flash c.args.self.now.bytes.now c.args.self.now.geometry) c.args.block.0 c.args.page.0 _ _ _
