@@ -3,7 +3,7 @@ use Rattle.std.proofs.Common.{◌≡◌, ℕ, suc, ◌+◌, ◌<◌, ◌≤◌, 
 use Rattle.std.proofs.lemmas.List.{drop_more}
 use Rattle.std.proofs.lemmas.Bool.{cases_eq, cases_lt, cond_both}
 use Rattle.std.proofs.lemmas.Bool.Decides.{nat_tests}
-use Rattle.std.specs.List.{prefix_len, AllByRecursion as All}
+use Rattle.std.specs.List.{prefix_len, AllByRecursion}
 use Rattle.console.specs.Commands.{Said, says_write, says_read, digit, value, Numeral, Spelling, number_of, no_space, read_of, write_of, said_write, said}
 
 -- what follows the letter of a write: a space after k bytes
@@ -33,12 +33,12 @@ module _ (line : List ℕ) where
   said_w h e f = grind (arith, nat_tests)
 
 -- a numeral is what spells a number
-all_leading : {X : Type 0} (p : X → Bool) (xs : List X) → prefix_len p xs ≡ length xs → All (λ x. p x ≡ true) xs
+all_leading : {X : Type 0} (p : X → Bool) (xs : List X) → prefix_len p xs ≡ length xs → AllByRecursion (λ x. p x ≡ true) xs
 all_leading p [] h = tt
-all_leading p (x ∷ xs) h = cond_both (p x) (1 + prefix_len p xs) 0 (λ n. n ≡ suc (length xs) → (p x ≡ true) × All (λ x. p x ≡ true) xs)
+all_leading p (x ∷ xs) h = cond_both (p x) (1 + prefix_len p xs) 0 (λ n. n ≡ suc (length xs) → (p x ≡ true) × AllByRecursion (λ x. p x ≡ true) xs)
     (λ yes e. (yes, all_leading p xs (omega arith))) (λ none e. absurd (omega arith)) h
 
-leading_all : {X : Type 0} (p : X → Bool) (xs : List X) → All (λ x. p x ≡ true) xs → prefix_len p xs ≡ length xs
+leading_all : {X : Type 0} (p : X → Bool) (xs : List X) → AllByRecursion (λ x. p x ≡ true) xs → prefix_len p xs ≡ length xs
 leading_all p [] h = refl
 leading_all p (x ∷ xs) h = let e = h.0 in let r = leading_all p xs h.1 in rw (e, r) (omega arith)
 
@@ -57,7 +57,7 @@ spelt_number ds n h = record {
 }
 
 -- what stands after a front without spaces
-leading_stop : (ds text : List ℕ) → All (λ d. digit d ≡ true) ds → prefix_len no_space (ds ++ (32 ∷ text)) ≡ length ds
+leading_stop : (ds text : List ℕ) → AllByRecursion (λ d. digit d ≡ true) ds → prefix_len no_space (ds ++ (32 ∷ text)) ≡ length ds
 leading_stop [] text h = refl
 leading_stop (d ∷ ds) text h =
     let other : no_space d ≡ true = let e = h.0 in grind (arith, nat_tests) in

@@ -1,6 +1,6 @@
 -- What a command line says.
 use Rattle.std.specs.Prelude.{◌≡◌, ℕ, ◌+◌, ◌-◌, ◌*◌, ◌^◌, ◌<◌, ◌≤◌, Bool, true, cond, not, ◌&&◌, List, [], ◌∷◌, ◌++◌, length, take, drop, Some, None, codes, fold, Option, ◌==◌, nat_le, nat_lt, slice_index}
-use Rattle.std.specs.List.{prefix_len, AllByRecursion as All}
+use Rattle.std.specs.List.{prefix_len, AllByRecursion}
 
 -- A write of a sector with a text, or a read of a sector.
 pub data Said : Type 0 where
@@ -19,7 +19,7 @@ value ds = fold (λ n d. n * 10 + (d - 48)) 0 ds
 pub record Numeral (ds : List ℕ) (n : ℕ) : Type 0 where
   pub some : 1 ≤ length ds
   pub most : length ds ≤ 10
-  pub digits : All (λ d. digit d ≡ true) ds
+  pub digits : AllByRecursion (λ d. digit d ≡ true) ds
   pub amounts : value ds ≡ n
   pub fits : n < 2 ^ 32
 

@@ -2,7 +2,7 @@
 use Rattle.std.proofs.Common.{◌≡◌, ℕ, zero, suc, ◌+◌, ◌*◌, ◌<◌, ◌≤◌, List, [], ◌∷◌, ◌++◌, length, get_or, take, drop, sym, refl, ap, ◌∙◌, arith, length-drop, take-append-drop, length-take, take_all, drop-drop, take-add, rules}
 use Rattle.std.proofs.ByRecursion.{All-from_get_or}
 use Rattle.std.proofs.lemmas.List.{get_or-take, get_or-drop}
-use Rattle.std.specs.List.{flat_map, AllByRecursion as All}
+use Rattle.std.specs.List.{flat_map, AllByRecursion}
 use Rattle.image.specs.Chip.{Chip, counted, numbers, encoding, InRange, Fits32, WholePage}
 use Rattle.image.specs.Format.{word, word_bytes, items_from, words_from, image_length}
 use Rattle.image.proofs.Checks.{Accepted}
@@ -12,7 +12,7 @@ pub length_items_from : {X : Type 0} (item : ℕ → X) (m k n : ℕ) → length
 length_items_from item m k zero = refl
 length_items_from item m k (suc n) = ap suc (length_items_from item m (k + m) n)
 
-all_items_from : {X : Type 0} (P : X → Type 0) (item : ℕ → X) (m k n e : ℕ) → k + m * n ≤ e → ((j : ℕ) → j + m ≤ e → P (item j)) → All P (items_from item m k n)
+all_items_from : {X : Type 0} (P : X → Type 0) (item : ℕ → X) (m k n e : ℕ) → k + m * n ≤ e → ((j : ℕ) → j + m ≤ e → P (item j)) → AllByRecursion P (items_from item m k n)
 all_items_from P item m k zero e h p = tt
 all_items_from P item m k (suc n) e h p = (p k (omega arith), all_items_from P item m (k + m) n e (omega arith) p)
 
@@ -64,7 +64,7 @@ module _ (bs : List ℕ) where
   }
 
   module _ (b p l : ℕ) (byte : Bytes bs) (a : Accepted bs b p l) where
-    words_fit : (k n : ℕ) → All Fits32 (words_from bs k n)
+    words_fit : (k n : ℕ) → AllByRecursion Fits32 (words_from bs k n)
     words_fit k n = all_items_from Fits32 (word bs) 4 k n (k + 4 * n) (omega arith) (λ j h. word_fits bs j byte)
 
     whole_page : (j : ℕ) → j + 512 ≤ length bs → WholePage (page_at j)

@@ -4,14 +4,14 @@ use lib.ListN.{length-replicate}
 use Rattle.std.proofs.ByRecursion.{All-append, All-get_or}
 use Rattle.std.proofs.lemmas.List.{get_or_past}
 use Rattle.std.proofs.lemmas.Bool.{cases_lt}
-use Rattle.std.specs.List.{flat_map, AllByRecursion as All}
+use Rattle.std.specs.List.{flat_map, AllByRecursion}
 use Rattle.image.specs.Chip.{Chip, counted, numbers, encoding, InRange, Fits32, WholePage, blank_chip}
 use Rattle.image.specs.Format.{word, word_bytes, image_length}
 use Rattle.image.proofs.Checks.{Accepted}
 use Rattle.image.proofs.Words.{Bytes, word_of, word_first, word_past}
 
 -- items of m bytes each
-pub length_items : {X : Type 0} (bytes : X → List ℕ) (m : ℕ) (xs : List X) → All (λ x. length (bytes x) ≡ m) xs → length (flat_map bytes xs) ≡ m * length xs
+pub length_items : {X : Type 0} (bytes : X → List ℕ) (m : ℕ) (xs : List X) → AllByRecursion (λ x. length (bytes x) ≡ m) xs → length (flat_map bytes xs) ≡ m * length xs
 length_items bytes m [] h = omega arith
 length_items bytes m (x ∷ xs) h =
     let e = length-append (bytes x) (flat_map bytes xs) in
@@ -19,18 +19,18 @@ length_items bytes m (x ∷ xs) h =
     let f = h.0 in
     omega arith
 
-each_whole : (xs : List (List ℕ)) → All WholePage xs → All (λ x. length x ≡ 512) xs
+each_whole : (xs : List (List ℕ)) → AllByRecursion WholePage xs → AllByRecursion (λ x. length x ≡ 512) xs
 each_whole [] h = tt
 each_whole (x ∷ xs) h = (h.0.0, each_whole xs h.1)
 
 length_numbers : (xs : List ℕ) → length (numbers xs) ≡ 4 + 4 * length xs
 length_numbers xs = let e = length_items word_bytes 4 xs (each_four xs) in omega arith
   where
-    each_four : (xs : List ℕ) → All (λ x. length (word_bytes x) ≡ 4) xs
+    each_four : (xs : List ℕ) → AllByRecursion (λ x. length (word_bytes x) ≡ 4) xs
     each_four [] = tt
     each_four (x ∷ xs) = (refl, each_four xs)
 
-length_pages : (xs : List (List ℕ)) → All WholePage xs → length (counted (λ page. page) xs) ≡ 4 + 512 * length xs
+length_pages : (xs : List (List ℕ)) → AllByRecursion WholePage xs → length (counted (λ page. page) xs) ≡ 4 + 512 * length xs
 length_pages xs h = let e = length_items (λ page. page) 512 xs (each_whole xs h) in omega arith
 
 -- the count of a section that stands first
@@ -107,26 +107,26 @@ module _ (c : Chip) (ok : InRange c) where
 
 -- what is made of bytes is made of bytes
 abbrev Small : List ℕ → Type 0
-Small = All (λ b. b < 256)
+Small = AllByRecursion (λ b. b < 256)
 
 small_word : (n : ℕ) → Small (word_bytes n)
 small_word n = (omega arith, (omega arith, (omega arith, (omega arith, tt))))
 
-small_items : {X : Type 0} (bytes : X → List ℕ) (xs : List X) → All (λ x. Small (bytes x)) xs → Small (flat_map bytes xs)
+small_items : {X : Type 0} (bytes : X → List ℕ) (xs : List X) → AllByRecursion (λ x. Small (bytes x)) xs → Small (flat_map bytes xs)
 small_items bytes [] h = tt
 small_items bytes (x ∷ xs) h = All-append (λ b. b < 256) (bytes x) (flat_map bytes xs) h.0 (small_items bytes xs h.1)
 
 small_numbers : (xs : List ℕ) → Small (numbers xs)
 small_numbers xs = All-append (λ b. b < 256) (word_bytes (length xs)) (flat_map word_bytes xs) (small_word (length xs)) (small_items word_bytes xs (each xs))
   where
-    each : (xs : List ℕ) → All (λ x. Small (word_bytes x)) xs
+    each : (xs : List ℕ) → AllByRecursion (λ x. Small (word_bytes x)) xs
     each [] = tt
     each (x ∷ xs) = (small_word x, each xs)
 
-small_pages : (xs : List (List ℕ)) → All WholePage xs → Small (counted (λ page. page) xs)
+small_pages : (xs : List (List ℕ)) → AllByRecursion WholePage xs → Small (counted (λ page. page) xs)
 small_pages xs h = All-append (λ b. b < 256) (word_bytes (length xs)) (flat_map (λ page. page) xs) (small_word (length xs)) (small_items (λ page. page) xs (each xs h))
   where
-    each : (xs : List (List ℕ)) → All WholePage xs → All (λ x. Small x) xs
+    each : (xs : List (List ℕ)) → AllByRecursion WholePage xs → AllByRecursion (λ x. Small x) xs
     each [] h = tt
     each (x ∷ xs) h = (h.0.1, each xs h.1)
 
@@ -147,7 +147,7 @@ encoding_bytes c ok =
     let b₂ = both s₂ (s₃ ++ (s₄ ++ s₅)) (small_numbers c.counts) b₃ in
     small_bytes (encoding c) (both s₁ (s₂ ++ (s₃ ++ (s₄ ++ s₅))) (small_numbers (c.blocks ∷ c.pages ∷ c.life ∷ [])) b₂)
 
-all_replicate : {X : Type 0} (P : X → Type 0) (n : ℕ) (x : X) → P x → All P (replicate n x)
+all_replicate : {X : Type 0} (P : X → Type 0) (n : ℕ) (x : X) → P x → AllByRecursion P (replicate n x)
 all_replicate P zero x h = tt
 all_replicate P (suc n) x h = (h, all_replicate P n x h)
 

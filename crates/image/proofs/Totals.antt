@@ -1,7 +1,7 @@
 -- The erase counts that stand in an image, one by one and added up.
 use Rattle.std.proofs.Common.{◌≡◌, ℕ, zero, suc, ◌+◌, ◌*◌, ◌^◌, ◌<◌, ◌≤◌, List, [], ◌∷◌, ◌++◌, length, sum, sym, refl, ap, ◌∙◌, append_assoc, add-one, arith, length-append}
 use Rattle.std.proofs.lemmas.List.Sums.{sum_by_push}
-use Rattle.std.specs.List.{flat_map, AllByRecursion as All}
+use Rattle.std.specs.List.{flat_map, AllByRecursion}
 use Rattle.image.specs.Chip.{Chip, counted, numbers, encoding, InRange, Fits32}
 use Rattle.image.specs.Format.{word, word_bytes, items_from, words_from}
 use Rattle.image.proofs.Words.{word_first, word_past}
@@ -16,7 +16,7 @@ pub total_more : (bs : List ℕ) (k n : ℕ) → sum (words_from bs k (n + 1)) �
 total_more bs k n = rw add-one (ap sum (items_push (word bs) 4 k n) ∙ sum_by_push (λ x. x) (words_from bs k n) (word bs (k + 4 * n)))
 
 -- numbers that stand after a front of the bytes
-words_joined : (xs front rest : List ℕ) (k : ℕ) → length front ≡ k → All Fits32 xs → words_from (front ++ (flat_map word_bytes xs ++ rest)) k (length xs) ≡ xs
+words_joined : (xs front rest : List ℕ) (k : ℕ) → length front ≡ k → AllByRecursion Fits32 xs → words_from (front ++ (flat_map word_bytes xs ++ rest)) k (length xs) ≡ xs
 words_joined [] front rest k e h = refl
 words_joined (x ∷ xs) front rest k e h =
     let r = words_joined xs (front ++ word_bytes x) rest (k + 4) (length-append front (word_bytes x) ∙ omega arith) h.1 in

@@ -1,6 +1,6 @@
 -- A chip as an image shows it, and the bytes of that image: five counted sections, one after the other.
 use Rattle.std.specs.Prelude.{◌≡◌, ℕ, ◌*◌, ◌^◌, ◌<◌, ◌≤◌, List, [], ◌∷◌, ◌++◌, length, replicate}
-use Rattle.std.specs.List.{flat_map, AllByRecursion as All}
+use Rattle.std.specs.List.{flat_map, AllByRecursion}
 use Rattle.image.specs.Format.{word_bytes}
 
 -- The pages stand block after block in the last three lists.
@@ -29,7 +29,7 @@ abbrev pub Fits32 : ℕ → Type 0
 Fits32 n = n < 2 ^ 32
 
 abbrev pub WholePage : List ℕ → Type 0
-WholePage bytes = (length bytes ≡ 512) × All (λ b. b < 256) bytes
+WholePage bytes = (length bytes ≡ 512) × AllByRecursion (λ b. b < 256) bytes
 
 -- The chips that have an image.
 pub record InRange (c : Chip) : Type 0 where
@@ -43,10 +43,10 @@ pub record InRange (c : Chip) : Type 0 where
   pub all_sectors : length c.sectors ≡ c.blocks * c.pages
   pub all_stamps : length c.stamps ≡ c.blocks * c.pages
   pub all_contents : length c.contents ≡ c.blocks * c.pages
-  pub counts_fit : All Fits32 c.counts
-  pub sectors_fit : All Fits32 c.sectors
-  pub stamps_fit : All Fits32 c.stamps
-  pub contents_whole : All WholePage c.contents
+  pub counts_fit : AllByRecursion Fits32 c.counts
+  pub sectors_fit : AllByRecursion Fits32 c.sectors
+  pub stamps_fit : AllByRecursion Fits32 c.stamps
+  pub contents_whole : AllByRecursion WholePage c.contents
 
 -- A chip as it leaves the factory: never erased, all pages blank, with every bit set.
 abbrev pub blank_chip : ℕ → ℕ → ℕ → Chip

@@ -1,6 +1,6 @@
 -- How changes lead the roles of blocks: one list of changes after another, and the changes that the steps make.
 use Rattle.std.proofs.Common.{◌≡◌, ℕ, ◌<◌, eqb, ◌≢◌, List, [], ◌∷◌, ◌++◌, map, Some, None, Option, sym, refl, ap, ◌∙◌, inl, inr, arith}
-use Rattle.std.specs.List.{AllByRecursion as All}
+use Rattle.std.specs.List.{AllByRecursion}
 use Rattle.std.proofs.lemmas.Bool.{cases_Bool, cases_eq, eq-eqb, ne_eqb}
 use Rattle.scheme.specs.Functions.{upd}
 use Rattle.scheme.specs.Roles as spec
@@ -84,6 +84,6 @@ led_one ρ f e r cs h b =
     ]
 
 -- a block that none of the changes is about
-pub led_away : (e : Event) (ds : List ℕ) (b : ℕ) (r : spec.Role) → All (λ d. d ≢ b) ds → led b (map (turn e) ds) r ≡ Some r
+pub led_away : (e : Event) (ds : List ℕ) (b : ℕ) (r : spec.Role) → AllByRecursion (λ d. d ≢ b) ds → led b (map (turn e) ds) r ≡ Some r
 led_away e [] b r a = refl
 led_away e (d ∷ ds) b r a = led_other b (turn e d) (map (turn e) ds) r a.0 ∙ led_away e ds b r a.1

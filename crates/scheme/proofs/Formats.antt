@@ -1,6 +1,6 @@
 -- What format leaves.
 use Rattle.std.proofs.Common.{◌≡◌, ℕ, zero, suc, ◌+◌, ◌-◌, ◌<◌, ◌≤◌, cond, ltb, ◌≢◌, [], length, is_some, None, sym, refl, ap, ◌∙◌, subst, zero-add, arith}
-use Rattle.std.specs.List.{AllByRecursion as All}
+use Rattle.std.specs.List.{AllByRecursion}
 use Rattle.std.proofs.lemmas.Bool.{lt-ltb, le-ltb}
 use Rattle.flash.specs.Calls as calls
 use Rattle.flash.specs.Meaning.{Flash, blank}
@@ -44,7 +44,7 @@ cleans s young (suc n) most =
       not_yet = λ b h. upd_other w.flash.count (0 + n) (w.flash.count (0 + n) + 1) b (omega arith) ∙ c.not_yet b (omega arith);
     })
 
-pub rising_all : (Q : ℕ → Type 0) (i n : ℕ) → ((b : ℕ) → i ≤ b → b < i + n → Q b) → All Q (rising i n)
+pub rising_all : (Q : ℕ → Type 0) (i n : ℕ) → ((b : ℕ) → i ≤ b → b < i + n → Q b) → AllByRecursion Q (rising i n)
 rising_all Q i zero f = tt
 rising_all Q i (suc n) f = (f i (omega arith) (omega arith), rising_all Q (suc i) n (λ b l h. f b (omega arith) (omega arith)))
 

@@ -1,7 +1,7 @@
 -- What the pages hold: each sector's place has its ledger line, and what is to be programmed next is blank.
 use Rattle.std.proofs.Common.{◌≡◌, ℕ, ◌+◌, ◌-◌, ◌*◌, ◌/◌, ◌<◌, ◌≤◌, true, eqb, ◌≢◌, List, [], ◌∷◌, map, length, get_or, is_some, Some, None, Option, sym, refl, ap, ◌∙◌, inl, inr, arith}
 use lib.Arith.{digits_div}
-use Rattle.std.specs.List.{AllByRecursion as All}
+use Rattle.std.specs.List.{AllByRecursion}
 use Rattle.std.proofs.ByRecursion.{All-append, All-weaker, All-get_or}
 use Rattle.std.proofs.lemmas.List.{length-map}
 use Rattle.std.proofs.lemmas.Bool.{cond_both, cases_eq, eq-eqb, ne_eqb, eqb-false}
@@ -28,14 +28,14 @@ pub record Held (P L : ℕ) (l : ℕ → Option (List ℕ)) (s : State) : Type 0
   pub seq_tail : (k : Sequential) → s.tables.sequential ≡ Some k → (o : ℕ) → k.fill ≤ o → s.flash.page k.block o ≡ blank
   pub log_log : (n i : ℕ) → entry_of n 0 s.tables.entries ≡ Some i → is_some (l n) ≡ true
   pub log_tail : (q p : ℕ) → q < length s.tables.logs → p < P → length s.tables.entries ≤ q * P + p → s.flash.page (get_or s.tables.logs q 0) p ≡ blank
-  pub free_blank : All (λ b. (p : ℕ) → s.flash.page b p ≡ blank) s.tables.free
+  pub free_blank : AllByRecursion (λ b. (p : ℕ) → s.flash.page b p ≡ blank) s.tables.free
 
 -- blocks erased one after the other
 pub wiped : Flash → List ℕ → Flash
 wiped f [] = f
 wiped f (b ∷ bs) = wiped (erased f b) bs
 
-pub wiped_keeps : (f : Flash) (ds : List ℕ) (b : ℕ) → All (λ d. b ≢ d) ds → (wiped f ds).page b ≡ f.page b
+pub wiped_keeps : (f : Flash) (ds : List ℕ) (b : ℕ) → AllByRecursion (λ d. b ≢ d) ds → (wiped f ds).page b ≡ f.page b
 unfolding wiped
 wiped_keeps f [] b a = refl
 wiped_keeps f (d ∷ ds) b a = wiped_keeps (erased f d) ds b a.1 ∙ upd_other f.page d (λ _. blank) b a.0
@@ -46,12 +46,12 @@ wiped_still f [] b h p = h p
 wiped_still f (d ∷ ds) b h p =
     wiped_still (erased f d) ds b (λ p. upd_both f.page d (λ _. blank) b (λ r. r p ≡ blank) (λ _. refl) (λ _. h p)) p
 
-pub wiped_blank : (f : Flash) (ds : List ℕ) → All (λ d. (p : ℕ) → (wiped f ds).page d p ≡ blank) ds
+pub wiped_blank : (f : Flash) (ds : List ℕ) → AllByRecursion (λ d. (p : ℕ) → (wiped f ds).page d p ≡ blank) ds
 unfolding wiped
 wiped_blank f [] = tt
 wiped_blank f (d ∷ ds) = (wiped_still (erased f d) ds d (λ p. ap (λ (r : ℕ → Page). r p) (upd_same f.page d (λ _. blank))), wiped_blank (erased f d) ds)
 
-pub erases_do : {P L B : ℕ} (ds : List ℕ) (s : State) → All (λ d. d < B) ds → All (λ d. (c o : ℕ) → c < L → o < P → (place P s.tables c o).block ≢ d) ds → Does P L B s (erase_all ds s) (record { flash = wiped s.flash ds; tables = s.tables }) (length ds)
+pub erases_do : {P L B : ℕ} (ds : List ℕ) (s : State) → AllByRecursion (λ d. d < B) ds → AllByRecursion (λ d. (c o : ℕ) → c < L → o < P → (place P s.tables c o).block ≢ d) ds → Does P L B s (erase_all ds s) (record { flash = wiped s.flash ds; tables = s.tables }) (length ds)
 unfolding wiped
 erases_do [] s i a = does_idle s
 erases_do (d ∷ ds) s i a =
@@ -63,7 +63,7 @@ module _ (P L R B : ℕ) (ρ : ℕ → Use) (l m : ℕ → Option (List ℕ)) (s
     (fill : ℕ → Page)
     (new : (o : ℕ) → o < P → line (fill o) ≡ m (c * P + o))
     (same : (n : ℕ) → n / P ≢ c → m n ≡ l n)
-    (rest-blank : All (λ b. (p : ℕ) → s.flash.page b p ≡ blank) rest) where
+    (rest-blank : AllByRecursion (λ b. (p : ℕ) → s.flash.page b p ≡ blank) rest) where
   abbrev pub merge_end : State
   merge_end =
       record {
@@ -103,7 +103,7 @@ module _ (P L R B : ℕ) (ρ : ℕ → Use) (l m : ℕ → Option (List ℕ)) (s
       ) refl
 
   -- the pages of the blocks that are neither merged into nor dead
-  kept_row : (b : ℕ) → b ≢ to → All (λ d. b ≢ d) dead → merge_end.flash.page b ≡ s.flash.page b
+  kept_row : (b : ℕ) → b ≢ to → AllByRecursion (λ d. b ≢ d) dead → merge_end.flash.page b ≡ s.flash.page b
   kept_row b n a =
       wiped_keeps (with_pages s.flash (upd s.flash.page to fill)) dead b a ∙ upd_other s.flash.page to fill b n
 
@@ -116,7 +116,7 @@ module _ (P L R B : ℕ) (ρ : ℕ → Use) (l m : ℕ → Option (List ℕ)) (s
   to_role : new_role to ≡ data_of c
   to_role = merged_to P L R B ρ s.tables some ok c to rest dead mg
 
-  dead_free : All (λ d. new_role d ≡ free) dead
+  dead_free : AllByRecursion (λ d. new_role d ≡ free) dead
   dead_free = marked_free (upd ρ to (data_of c)) dead
 
   role_row : (b : ℕ) (r : Use) → new_role b ≡ r → r ≢ data_of c → r ≢ free → merge_end.flash.page b ≡ s.flash.page b
@@ -170,7 +170,7 @@ module _ (P L R B : ℕ) (ρ : ℕ → Use) (l m : ℕ → Option (List ℕ)) (s
       other_data d h ne =
           role_row (s.tables.data_block d) (data_of d) (rw upd_other at (roles.data_role d h)) (λ z. ne (data_same d c z)) (unlike (data_of d) free (λ z. omega arith))
 
-      blank_rest : (bs : List ℕ) → All (λ b. (p : ℕ) → s.flash.page b p ≡ blank) bs → All (λ b. b ≢ to) bs → All (λ b. (p : ℕ) → merge_end.flash.page b p ≡ blank) bs
+      blank_rest : (bs : List ℕ) → AllByRecursion (λ b. (p : ℕ) → s.flash.page b p ≡ blank) bs → AllByRecursion (λ b. b ≢ to) bs → AllByRecursion (λ b. (p : ℕ) → merge_end.flash.page b p ≡ blank) bs
       blank_rest [] h a = tt
       blank_rest (b ∷ bs) h a = (
         wiped_still (with_pages s.flash (upd s.flash.page to fill)) dead b (λ p. ap (λ (r : ℕ → Page). r p) (upd_other s.flash.page to fill b a.0) ∙ h.0 p),

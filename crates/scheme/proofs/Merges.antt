@@ -1,6 +1,6 @@
 -- A merge of a logical block: the roles that it leaves.
 use Rattle.std.proofs.Common.{◌≡◌, ℕ, ◌+◌, ◌/◌, ◌<◌, eqb, ◌≢◌, List, [], ◌∷◌, ◌++◌, map, length, Some, None, Option, sym, refl, ap, ◌∙◌, subst, inl, inr, arith}
-use Rattle.std.specs.List.{AllByRecursion as All}
+use Rattle.std.specs.List.{AllByRecursion}
 use Rattle.std.proofs.ByRecursion.{All-append, All-weaker}
 use Rattle.std.proofs.lemmas.List.{length-map, length-append}
 use Rattle.std.proofs.lemmas.Bool.{cond_both, cases_eq, cases_lt, cases_Bool, ne_eqb, eqb-true, eqb-false}
@@ -50,12 +50,12 @@ pub marked : (ℕ → Use) → List ℕ → ℕ → Use
 marked ρ [] = ρ
 marked ρ (d ∷ ds) = upd (marked ρ ds) d free
 
-pub marked_kept : (ρ : ℕ → Use) (ds : List ℕ) (b : ℕ) → All (λ d. b ≢ d) ds → marked ρ ds b ≡ ρ b
+pub marked_kept : (ρ : ℕ → Use) (ds : List ℕ) (b : ℕ) → AllByRecursion (λ d. b ≢ d) ds → marked ρ ds b ≡ ρ b
 unfolding marked
 marked_kept ρ [] b a = refl
 marked_kept ρ (d ∷ ds) b a = upd_other (marked ρ ds) d free b a.0 ∙ marked_kept ρ ds b a.1
 
-pub marked_free : (ρ : ℕ → Use) (ds : List ℕ) → All (λ d. marked ρ ds d ≡ free) ds
+pub marked_free : (ρ : ℕ → Use) (ds : List ℕ) → AllByRecursion (λ d. marked ρ ds d ≡ free) ds
 unfolding marked
 marked_free ρ [] = tt
 marked_free ρ (d ∷ ds) = (
@@ -70,14 +70,14 @@ marked_still ρ [] b e = e
 marked_still ρ (d ∷ ds) b e = upd_both (marked ρ ds) d free b (λ r. r ≡ free) (λ _. refl) (λ _. marked_still ρ ds b e)
 
 -- blocks in use that are erased
-pub led_dead : (ρ : ℕ → Use) (ds : List ℕ) → Apart ds → All (λ d. after (role_told (ρ d)) spec.erased ≡ Some spec.free) ds → (b : ℕ) → led b (map (turn spec.erased) ds) (role_told (ρ b)) ≡ Some (role_told (marked ρ ds b))
+pub led_dead : (ρ : ℕ → Use) (ds : List ℕ) → Apart ds → AllByRecursion (λ d. after (role_told (ρ d)) spec.erased ≡ Some spec.free) ds → (b : ℕ) → led b (map (turn spec.erased) ds) (role_told (ρ b)) ≡ Some (role_told (marked ρ ds b))
 unfolding marked
 led_dead ρ [] a h b = refl
 led_dead ρ (d ∷ ds) a h b =
     elim (cases_eq d b) [
       | inl e ↦
           led_own b (turn spec.erased d) (map (turn spec.erased) ds) (role_told (ρ b)) spec.free e (subst (λ x. after (role_told (ρ x)) spec.erased ≡ Some spec.free) e h.0)
-          ∙ led_away spec.erased ds b spec.free (subst (λ x. All (λ y. y ≢ x) ds) e a.0)
+          ∙ led_away spec.erased ds b spec.free (subst (λ x. AllByRecursion (λ y. y ≢ x) ds) e a.0)
           ∙ ap (λ x. Some (role_told x)) (sym (ap (λ z. upd (marked ρ ds) z free b) e ∙ upd_same (marked ρ ds) b free))
       | inr n ↦
           led_other b (turn spec.erased d) (map (turn spec.erased) ds) (role_told (ρ b)) n
@@ -93,7 +93,7 @@ gives_up c sequential m n = refl
 gives_up c random m n = absurd m
 gives_up c outside m n = absurd m
 
-apart_append : (xs ys : List ℕ) → Apart xs → Apart ys → All (λ x. All (λ y. y ≢ x) ys) xs → Apart (xs ++ ys)
+apart_append : (xs ys : List ℕ) → Apart xs → Apart ys → AllByRecursion (λ x. AllByRecursion (λ y. y ≢ x) ys) xs → Apart (xs ++ ys)
 apart_append [] ys a b n = b
 apart_append (x ∷ xs) ys a b n = (All-append (λ y. y ≢ x) xs ys a.0 n.0, apart_append xs ys a.1 b n.1)
 
@@ -101,14 +101,14 @@ apart_append (x ∷ xs) ys a b n = (All-append (λ y. y ≢ x) xs ys a.0 n.0, ap
 pub record Merge (L B : ℕ) (ρ : ℕ → Use) (t : Tables) (c to : ℕ) (rest dead : List ℕ) : Type 0 where
   pub known : c < L
   pub to_mild : Mild c (ρ to)
-  pub dead_mild : All (λ d. Mild c (ρ d)) dead
-  pub dead_used : All (λ d. ρ d ≢ free) dead
-  pub to_alive : All (λ d. to ≢ d) dead
+  pub dead_mild : AllByRecursion (λ d. Mild c (ρ d)) dead
+  pub dead_used : AllByRecursion (λ d. ρ d ≢ free) dead
+  pub to_alive : AllByRecursion (λ d. to ≢ d) dead
   pub dead_apart : Apart dead
-  pub rest_free : All (λ b. ρ b ≡ free) rest
+  pub rest_free : AllByRecursion (λ b. ρ b ≡ free) rest
   pub rest_apart : Apart rest
-  pub rest_away : All (λ b. b ≢ to) rest
-  pub seq_away : (k : Sequential) → t.sequential ≡ Some k → k.owner ≢ c → (ρ to ≢ sequential) × All (λ d. ρ d ≢ sequential) dead
+  pub rest_away : AllByRecursion (λ b. b ≢ to) rest
+  pub seq_away : (k : Sequential) → t.sequential ≡ Some k → k.owner ≢ c → (ρ to ≢ sequential) × AllByRecursion (λ d. ρ d ≢ sequential) dead
   pub room : L + busy (released c t.sequential) + length t.logs + (length rest + length dead) ≡ B
 
 module _ (P L R B : ℕ) (ρ : ℕ → Use) (t : Tables) (some : 0 < P) (ok : Roles P L R B ρ t)
@@ -117,7 +117,7 @@ module _ (P L R B : ℕ) (ρ : ℕ → Use) (t : Tables) (some : 0 < P) (ok : Ro
   ρ' = marked (upd ρ to (data_of c)) dead
 
   -- a role that is not changed
-  kept : (b : ℕ) (r : Use) → ρ b ≡ r → ρ to ≢ r → All (λ d. ρ d ≢ r) dead → ρ' b ≡ r
+  kept : (b : ℕ) (r : Use) → ρ b ≡ r → ρ to ≢ r → AllByRecursion (λ d. ρ d ≢ r) dead → ρ' b ≡ r
   kept b r e n a =
       marked_kept (upd ρ to (data_of c)) dead b (All-weaker (λ d. ρ d ≢ r) (λ d. b ≢ d) (λ d h i. h (sym (ap ρ i) ∙ e)) dead a)
       ∙ upd_other ρ to (data_of c) b (λ i. n (sym (ap ρ i) ∙ e)) ∙ e
@@ -141,7 +141,7 @@ module _ (P L R B : ℕ) (ρ : ℕ → Use) (t : Tables) (some : 0 < P) (ok : Ro
         log_role = All-weaker (λ b. ρ b ≡ random) (λ b. ρ' b ≡ random) (λ b e. strong b random e (λ z. z)) t.logs ok.log_role;
         log_apart = ok.log_apart;
         free_role = All-append (λ b. ρ' b ≡ free) rest dead (still rest m.rest_free m.rest_away) (marked_free (upd ρ to (data_of c)) dead);
-        free_apart = apart_append rest dead m.rest_apart m.dead_apart (All-weaker (λ b. ρ b ≡ free) (λ b. All (λ d. d ≢ b) dead) (λ b e. All-weaker (λ d. ρ d ≢ free) (λ d. d ≢ b) (λ d h i. h (ap ρ i ∙ e)) dead m.dead_used) rest m.rest_free);
+        free_apart = apart_append rest dead m.rest_apart m.dead_apart (All-weaker (λ b. ρ b ≡ free) (λ b. AllByRecursion (λ d. d ≢ b) dead) (λ b e. All-weaker (λ d. ρ d ≢ free) (λ d. d ≢ b) (λ d h i. h (ap ρ i ∙ e)) dead m.dead_used) rest m.rest_free);
         none_outside = λ b h. strong b outside (ok.none_outside b h) (λ z. z);
         room = ap (λ n. L + busy (released c t.sequential) + length t.logs + n) (length-append rest dead) ∙ m.room;
         few = ok.few;
@@ -151,7 +151,7 @@ module _ (P L R B : ℕ) (ρ : ℕ → Use) (t : Tables) (some : 0 < P) (ok : Ro
         lives = λ n i e. ok.lives n i (live_before n i e);
       }
     where
-      still : (bs : List ℕ) → All (λ b. ρ b ≡ free) bs → All (λ b. b ≢ to) bs → All (λ b. ρ' b ≡ free) bs
+      still : (bs : List ℕ) → AllByRecursion (λ b. ρ b ≡ free) bs → AllByRecursion (λ b. b ≢ to) bs → AllByRecursion (λ b. ρ' b ≡ free) bs
       still [] f a = tt
       still (b ∷ bs) f a = (marked_still (upd ρ to (data_of c)) dead b (upd_other ρ to (data_of c) b a.0 ∙ f.0), still bs f.1 a.1)
 
@@ -167,7 +167,7 @@ module _ (P L R B : ℕ) (ρ : ℕ → Use) (t : Tables) (some : 0 < P) (ok : Ro
   pub to_inside : to < B
   to_inside = mild_inside to m.to_mild
 
-  pub dead_inside : All (λ d. d < B) dead
+  pub dead_inside : AllByRecursion (λ d. d < B) dead
   dead_inside = All-weaker (λ d. Mild c (ρ d)) (λ d. d < B) mild_inside dead m.dead_mild
 
   -- each role is led to the new one
@@ -176,7 +176,7 @@ module _ (P L R B : ℕ) (ρ : ℕ → Use) (t : Tables) (some : 0 < P) (ok : Ro
       led_by P L R B ρ ρ' t (merged P c to rest dead t) ok merged_roles (turn event to ∷ map (turn spec.erased) dead)
       (λ b. led_one ρ to event (data_of c) (map (turn spec.erased) dead) h b ∙ led_dead (upd ρ to (data_of c)) dead m.dead_apart (given dead m.dead_mild m.dead_used m.to_alive) b)
     where
-      given : (ds : List ℕ) → All (λ d. Mild c (ρ d)) ds → All (λ d. ρ d ≢ free) ds → All (λ d. to ≢ d) ds → All (λ d. after (role_told (upd ρ to (data_of c) d)) spec.erased ≡ Some spec.free) ds
+      given : (ds : List ℕ) → AllByRecursion (λ d. Mild c (ρ d)) ds → AllByRecursion (λ d. ρ d ≢ free) ds → AllByRecursion (λ d. to ≢ d) ds → AllByRecursion (λ d. after (role_told (upd ρ to (data_of c) d)) spec.erased ≡ Some spec.free) ds
       given [] x y z = tt
       given (d ∷ ds) x y z = (
         subst (λ r. after (role_told r) spec.erased ≡ Some spec.free) (sym (upd_other ρ to (data_of c) d (λ i. z.0 (sym i)))) (gives_up c (ρ d) x.0 y.0),

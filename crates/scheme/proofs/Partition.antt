@@ -1,6 +1,6 @@
 -- Each block has one role: at most one by its kind, and the counts add up.
 use Rattle.std.proofs.Common.{◌≡◌, ℕ, zero, suc, ◌+◌, ◌<◌, ◌≤◌, ◌≢◌, List, [], ◌∷◌, length, Some, None, Option, sym, refl, ap, ◌∙◌, ap₂, inl, inr, arith}
-use Rattle.std.specs.List.{AllByRecursion as All}
+use Rattle.std.specs.List.{AllByRecursion}
 use Rattle.std.proofs.ByRecursion.{All-weaker}
 use Rattle.std.proofs.lemmas.Bool.{cases_eq, eq-eqb, ne_eqb}
 use Rattle.scheme.specs.Functions.{sum_below}
@@ -18,7 +18,7 @@ is_other a b ne = rw (ne_eqb a b ne) refl
 is_few : (a b : ℕ) → is_block a b ≤ 1
 is_few a b = elim (cases_eq a b) [ inl e ↦ rw (is_same a b e) (omega arith) | inr ne ↦ rw (is_other a b ne) (omega arith) ]
 
-times_none : (b : ℕ) (xs : List ℕ) → All (λ x. x ≢ b) xs → times b xs ≡ 0
+times_none : (b : ℕ) (xs : List ℕ) → AllByRecursion (λ x. x ≢ b) xs → times b xs ≡ 0
 times_none b [] a = refl
 times_none b (x ∷ xs) a = omega (arith, is_other x b a.0, times_none b xs a.1)
 
@@ -69,7 +69,7 @@ sum_is (suc n) a h =
       | inr ne ↦ omega (arith, is_other a n ne, sum_is n a (omega arith))
     ]
 
-sum_times : (n : ℕ) (xs : List ℕ) → All (λ x. x < n) xs → sum_below n (λ b. times b xs) ≡ length xs
+sum_times : (n : ℕ) (xs : List ℕ) → AllByRecursion (λ x. x < n) xs → sum_below n (λ b. times b xs) ≡ length xs
 sum_times n [] a = sum_none (λ _. 0) n (λ _ _. refl)
 sum_times n (x ∷ xs) a = sum_add n (λ b. is_block x b) (λ b. times b xs) ∙ omega (arith, sum_is n x a.0, sum_times n xs a.1)
 

@@ -1,7 +1,7 @@
 -- Writes into the random log blocks: a page more, a block more, and the oldest block given up.
 use Rattle.std.proofs.Common.{◌≡◌, ℕ, suc, ◌+◌, ◌*◌, ◌/◌, ◌%◌, ◌<◌, ◌≤◌, true, eqb, ◌≢◌, List, [], ◌∷◌, ◌++◌, length, get_or, drop, is_some, Some, None, Option, sym, refl, ap, ◌∙◌, subst, inl, inr, mul-le-mul_right, mod-lt, div-lt_iff_lt-mul, div-add-mod', add-one, arith}
 use native.Mathlib.Nat.{add-div_right, add-mod_right}
-use Rattle.std.specs.List.{AllByRecursion as All}
+use Rattle.std.specs.List.{AllByRecursion}
 use Rattle.std.proofs.ByRecursion.{All-weaker, All-get_or, All-push}
 use Rattle.std.proofs.lemmas.List.{length-map, length_push, length-drop, get_or_append_left, get_or_push}
 use Rattle.std.proofs.lemmas.Bool.{cases_eq, cases_lt, eq-eqb, ne_eqb}
@@ -182,14 +182,14 @@ module _ (P L R B : ℕ) (l : ℕ → Option (List ℕ)) (s : State) (pos : 0 < 
     abbrev pub extended_end : State
     extended_end = record { flash = s.flash; tables = extended }
 
-    fr : (ρ f ≡ free) × All (λ b. ρ b ≡ free) rest
-    fr = subst (λ fs. All (λ b. ρ b ≡ free) fs) head ok.free_role
+    fr : (ρ f ≡ free) × AllByRecursion (λ b. ρ b ≡ free) rest
+    fr = subst (λ fs. AllByRecursion (λ b. ρ b ≡ free) fs) head ok.free_role
 
-    fa : All (λ y. y ≢ f) rest × Apart rest
+    fa : AllByRecursion (λ y. y ≢ f) rest × Apart rest
     fa = subst Apart head ok.free_apart
 
-    fb : ((p : ℕ) → s.flash.page f p ≡ blank) × All (λ b. (p : ℕ) → s.flash.page b p ≡ blank) rest
-    fb = subst (λ fs. All (λ b. (p : ℕ) → s.flash.page b p ≡ blank) fs) head held.free_blank
+    fb : ((p : ℕ) → s.flash.page f p ≡ blank) × AllByRecursion (λ b. (p : ℕ) → s.flash.page b p ≡ blank) rest
+    fb = subst (λ fs. AllByRecursion (λ b. (p : ℕ) → s.flash.page b p ≡ blank) fs) head held.free_blank
 
     kept : (b : ℕ) (q : Use) → ρ b ≡ q → (kind q ≡ 0 → ⊥) → upd ρ f random b ≡ q
     kept = taken_kept ρ f random fr.0
@@ -267,10 +267,10 @@ module _ (P L R B : ℕ) (l : ℕ → Option (List ℕ)) (s : State) (pos : 0 < 
     abbrev pub shortened_end : State
     shortened_end = record { flash = erased s.flash v; tables = shortened }
 
-    vr : (ρ v ≡ random) × All (λ b. ρ b ≡ random) rest
-    vr = subst (λ fs. All (λ b. ρ b ≡ random) fs) first ok.log_role
+    vr : (ρ v ≡ random) × AllByRecursion (λ b. ρ b ≡ random) rest
+    vr = subst (λ fs. AllByRecursion (λ b. ρ b ≡ random) fs) first ok.log_role
 
-    va : All (λ y. y ≢ v) rest × Apart rest
+    va : AllByRecursion (λ y. y ≢ v) rest × Apart rest
     va = subst Apart first ok.log_apart
 
     kept₂ : (b : ℕ) (q : Use) → ρ b ≡ q → (kind q ≡ 3 → ⊥) → upd ρ v free b ≡ q

@@ -1,6 +1,6 @@
 -- The roles of the blocks: what the tables say of them, and that the place of a sector is never in a free block.
 use Rattle.std.proofs.Common.{◌≡◌, ℕ, ◌+◌, ◌*◌, ◌/◌, ◌<◌, ◌≤◌, ◌&&◌, eqb, ltb, ◌≢◌, length, Some, None, Option, sym, refl, ap, ◌∙◌, inl, inr, mod-lt, div-lt_iff_lt-mul, arith}
-use Rattle.std.specs.List.{AllByRecursion as All}
+use Rattle.std.specs.List.{AllByRecursion}
 use Rattle.std.proofs.ByRecursion.{All-get_or}
 use Rattle.std.proofs.lemmas.Bool.{cases_lt, cond_both, and_parts, eqb-true, ltb-true}
 use Rattle.scheme.specs.Place.{Place, place, entry_of, sequential_place, entry_place}
@@ -42,9 +42,9 @@ pub record Roles (P L R B : ℕ) (ρ : ℕ → Use) (t : Tables) : Type 0 where
   pub seq_owner : (k : Sequential) → t.sequential ≡ Some k → k.owner < L
   pub seq_fill : (k : Sequential) → t.sequential ≡ Some k → k.fill ≤ P
   pub seq_some : (k : Sequential) → t.sequential ≡ Some k → 0 < k.fill
-  pub log_role : All (λ b. ρ b ≡ random) t.logs
+  pub log_role : AllByRecursion (λ b. ρ b ≡ random) t.logs
   pub log_apart : Apart t.logs
-  pub free_role : All (λ b. ρ b ≡ free) t.free
+  pub free_role : AllByRecursion (λ b. ρ b ≡ free) t.free
   pub free_apart : Apart t.free
   pub none_outside : (b : ℕ) → B ≤ b → ρ b ≡ outside
   pub room : L + busy t.sequential + length t.logs + length t.free ≡ B

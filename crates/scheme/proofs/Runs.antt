@@ -1,6 +1,6 @@
 -- Every run on a formatted layer answers as the ledger does, asks only what is sound, and wears the device no more than allowed.
 use Rattle.std.proofs.Common.{◌≡◌, ℕ, zero, suc, ◌+◌, ◌*◌, ◌/◌, ◌%◌, ◌<◌, ◌≤◌, min, Bool, true, false, cond, ◌&&◌, eqb, ltb, leb, List, [], ◌∷◌, ◌++◌, length, is_some, Some, None, Option, sym, refl, ap, ◌∙◌, subst, ap₂, inl, inr, mod-lt, div-lt_iff_lt-mul, mul-le-mul_left, div-add-mod', arith}
-use Rattle.std.specs.List.{AllByRecursion as All}
+use Rattle.std.specs.List.{AllByRecursion}
 use Rattle.std.proofs.ByRecursion.{All-weaker}
 use Rattle.std.proofs.lemmas.Bool.{cases_Bool, cases_lt, cases_eq, ltb-true, ltb-false, leb-true, leb-false, le-ltb, eqb-true, and_parts, or_parts}
 use Rattle.flash.specs.Meaning.{Flash}
@@ -26,18 +26,18 @@ use Rattle.scheme.proofs.Works.{Marked, Done, Wears, Marks, Allowed, unrefused}
 -- what holds of the rest of a run, with E erases so far
 pub record Kept (P L : ℕ) (y : Layer) (g : Ledger) (E : ℕ) (cs : List Call) : Type 0 where
   pub answers : AllAnswered g cs (replies_of y cs)
-  pub asks : All (λ (t : Turn). All (Sound t.before.pages t.before.logical) t.outcome.asked) (turns y cs)
-  pub accepted : All (λ (t : Turn). All Unrefused t.outcome.asked) (turns y cs)
-  pub roles : 0 < L → All RolesKept (turns y cs)
+  pub asks : AllByRecursion (λ (t : Turn). AllByRecursion (Sound t.before.pages t.before.logical) t.outcome.asked) (turns y cs)
+  pub accepted : AllByRecursion (λ (t : Turn). AllByRecursion Unrefused t.outcome.asked) (turns y cs)
+  pub roles : 0 < L → AllByRecursion RolesKept (turns y cs)
   pub counted : erases (last_layer y cs) ≡ erases y + all_told (replies_of y cs)
   pub bounded : P * (E + all_told (replies_of y cs)) ≤ (P + 1) * (ledger_after g cs (replies_of y cs)).overwrites
-  pub each : All CallCounted (turns y cs)
+  pub each : AllByRecursion CallCounted (turns y cs)
 
 -- what holds of one call and of the rest of the run after it
 record KeptCall (P L : ℕ) (y : Layer) (g : Ledger) (E : ℕ) (c : Call) (cs : List Call) (o : Outcome) : Type 0 where
   right : Answered g c o.reply
-  asked : All (Sound y.pages y.logical) o.asked
-  allowed : All Unrefused o.asked
+  asked : AllByRecursion (Sound y.pages y.logical) o.asked
+  allowed : AllByRecursion Unrefused o.asked
   role : 0 < L → RolesKept (record { before = y; outcome = o })
   count : erases o.after ≡ erases y + told o.reply.answer
   few : told o.reply.answer ≤ most_erases y

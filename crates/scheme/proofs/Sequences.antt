@@ -1,6 +1,6 @@
 -- Writes into the sequential log block.
 use Rattle.std.proofs.Common.{◌≡◌, ℕ, ◌+◌, ◌*◌, ◌<◌, true, eqb, ◌≢◌, List, [], ◌∷◌, length, get_or, is_some, Some, None, Option, sym, refl, ap, ◌∙◌, subst, ap₂, inl, inr, arith}
-use Rattle.std.specs.List.{AllByRecursion as All}
+use Rattle.std.specs.List.{AllByRecursion}
 use Rattle.std.proofs.ByRecursion.{All-weaker, All-get_or}
 use Rattle.std.proofs.lemmas.List.{length-map}
 use Rattle.std.proofs.lemmas.Bool.{cond_both, cases_eq, cases_lt, eq-eqb, ne_eqb, lt-ltb, le-ltb}
@@ -61,14 +61,14 @@ module _ (P L R B : ℕ) (l : ℕ → Option (List ℕ)) (s : State) (some : 1 <
     abbrev pub open_end : State
     open_end = record { flash = programmed s.flash f 0 x; tables = opened b f rest t }
 
-    fr : (ρ f ≡ free) × All (λ b. ρ b ≡ free) rest
-    fr = subst (λ fs. All (λ b. ρ b ≡ free) fs) head ok.free_role
+    fr : (ρ f ≡ free) × AllByRecursion (λ b. ρ b ≡ free) rest
+    fr = subst (λ fs. AllByRecursion (λ b. ρ b ≡ free) fs) head ok.free_role
 
-    fa : All (λ y. y ≢ f) rest × Apart rest
+    fa : AllByRecursion (λ y. y ≢ f) rest × Apart rest
     fa = subst Apart head ok.free_apart
 
-    fb : ((p : ℕ) → s.flash.page f p ≡ blank) × All (λ b. (p : ℕ) → s.flash.page b p ≡ blank) rest
-    fb = subst (λ fs. All (λ b. (p : ℕ) → s.flash.page b p ≡ blank) fs) head held.free_blank
+    fb : ((p : ℕ) → s.flash.page f p ≡ blank) × AllByRecursion (λ b. (p : ℕ) → s.flash.page b p ≡ blank) rest
+    fb = subst (λ fs. AllByRecursion (λ b. (p : ℕ) → s.flash.page b p ≡ blank) fs) head held.free_blank
 
     log : (d : ℕ) → d < L → t.data_block d ≢ f
     log d h = other_kind ρ f (t.data_block d) free (data_of d) fr.0 (ok.data_role d h) (λ z. omega arith)

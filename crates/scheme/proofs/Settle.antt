@@ -1,6 +1,6 @@
 -- The settling of a logical block, and the merge that an overwrite in the sequential log block makes.
 use Rattle.std.proofs.Common.{◌≡◌, ℕ, ◌+◌, ◌-◌, ◌*◌, ◌/◌, ◌<◌, ◌≤◌, eqb, ◌≢◌, List, [], ◌∷◌, length, Some, None, Option, sym, refl, ap, ◌∙◌, subst, inl, inr, arith}
-use Rattle.std.specs.List.{AllByRecursion as All}
+use Rattle.std.specs.List.{AllByRecursion}
 use Rattle.std.proofs.ByRecursion.{All-weaker}
 use Rattle.std.proofs.lemmas.Bool.{cond_both, cases_Bool, eq-eqb, eqb-true, lt-ltb, cases_lt}
 use Rattle.flash.specs.Meaning.{Page, blank}
@@ -67,7 +67,7 @@ module _ (P L R B : ℕ) (l m : ℕ → Option (List ℕ)) (s : State) (some : 0
       → ((o : ℕ) → k ≤ o → s.flash.page to o ≡ blank)
       → ((o : ℕ) → k ≤ o → o < P → (place P t c o).block ≢ to)
       → ((o : ℕ) → o < k → line (s.flash.page to o) ≡ m (c * P + o))
-      → All (λ b. (p : ℕ) → s.flash.page b p ≡ blank) rest
+      → AllByRecursion (λ b. (p : ℕ) → s.flash.page b p ≡ blank) rest
       → Settled P L R B m s c (merge P event fresh c to k rest dead s) (length dead)
   merging event to k rest dead mg turns h room away low blanks =
       let fill : ℕ → Page = row (source P fresh s c) (s.flash.page to) k (P - k) in
@@ -125,8 +125,8 @@ module _ (P L R B : ℕ) (l m : ℕ → Option (List ℕ)) (s : State) (some : 0
 
   -- into a free block
   merge_rest : (dead : List ℕ) (fs : List ℕ) → t.free ≡ fs
-      → All (λ d. Mild c (ρ d)) dead → All (λ d. ρ d ≢ free) dead → Apart dead
-      → ((k : Sequential) → t.sequential ≡ Some k → k.owner ≢ c → All (λ d. ρ d ≢ sequential) dead)
+      → AllByRecursion (λ d. Mild c (ρ d)) dead → AllByRecursion (λ d. ρ d ≢ free) dead → Apart dead
+      → ((k : Sequential) → t.sequential ≡ Some k → k.owner ≢ c → AllByRecursion (λ d. ρ d ≢ sequential) dead)
       → busy (released c t.sequential) + length dead ≡ busy t.sequential + 1
       → Settled P L R B m s c (merge_free P fresh c fs dead s) (length dead)
   merge_rest dead [] e mild used apart away count = absurd (omega (arith, rw e at ok.room, ok.few, busy_few t.sequential))
@@ -135,9 +135,9 @@ module _ (P L R B : ℕ) (l m : ℕ → Option (List ℕ)) (s : State) (some : 0
       busy_few None = omega arith
       busy_few (Some k) = omega arith
   merge_rest dead (f ∷ rest) e mild used apart away count =
-      let fr : (ρ f ≡ free) × All (λ b. ρ b ≡ free) rest = subst (λ fs. All (λ b. ρ b ≡ free) fs) e ok.free_role in
-      let fa : All (λ y. y ≢ f) rest × Apart rest = subst Apart e ok.free_apart in
-      let fb : ((p : ℕ) → s.flash.page f p ≡ blank) × All (λ b. (p : ℕ) → s.flash.page b p ≡ blank) rest = subst (λ fs. All (λ b. (p : ℕ) → s.flash.page b p ≡ blank) fs) e held.free_blank in
+      let fr : (ρ f ≡ free) × AllByRecursion (λ b. ρ b ≡ free) rest = subst (λ fs. AllByRecursion (λ b. ρ b ≡ free) fs) e ok.free_role in
+      let fa : AllByRecursion (λ y. y ≢ f) rest × Apart rest = subst Apart e ok.free_apart in
+      let fb : ((p : ℕ) → s.flash.page f p ≡ blank) × AllByRecursion (λ b. (p : ℕ) → s.flash.page b p ≡ blank) rest = subst (λ fs. AllByRecursion (λ b. (p : ℕ) → s.flash.page b p ≡ blank) fs) e held.free_blank in
       merging spec.taken_as_data f 0 rest dead
       (record {
         known = known;

@@ -1,7 +1,7 @@
 -- A function with another value at one argument, and lists without repeats.
 use Rattle.std.proofs.Common.{◌≡◌, ℕ, eqb, ◌≢◌, List, [], ◌∷◌, ◌++◌, sym, refl, ap, ◌∙◌, inl, inr}
 use mathlib.Core.Path.{fun_ext}
-use Rattle.std.specs.List.{AllByRecursion as All}
+use Rattle.std.specs.List.{AllByRecursion}
 use Rattle.std.proofs.ByRecursion.{All-push}
 use Rattle.std.proofs.lemmas.Bool.{eq-eqb, ne_eqb, cond-true, cond-false, cases_eq}
 use Rattle.scheme.specs.Functions.{upd}
@@ -34,8 +34,8 @@ upd_twice f a x y =
 -- no number stands in the list twice
 abbrev pub Apart : List ℕ → Type 0
 Apart [] = Unit {0}
-Apart (x ∷ xs) = All (λ y. y ≢ x) xs × Apart xs
+Apart (x ∷ xs) = AllByRecursion (λ y. y ≢ x) xs × Apart xs
 
-pub apart_push : (xs : List ℕ) (y : ℕ) → Apart xs → All (λ x. x ≢ y) xs → Apart (xs ++ y ∷ [])
+pub apart_push : (xs : List ℕ) (y : ℕ) → Apart xs → AllByRecursion (λ x. x ≢ y) xs → Apart (xs ++ y ∷ [])
 apart_push [] y a n = (tt, tt)
 apart_push (x ∷ xs) y a n = (All-push (λ z. z ≢ x) xs y a.0 (λ e. n.0 (sym e)), apart_push xs y a.1 n.1)

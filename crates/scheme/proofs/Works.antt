@@ -1,7 +1,7 @@
 -- What a piece of work does: the state that it ends in, its erases, and that all it asks is sound; and the copy of a range of
 -- offsets into a block.
 use Rattle.std.proofs.Common.{◌≡◌, ℕ, zero, suc, ◌+◌, ◌*◌, ◌<◌, ◌≤◌, true, false, cond, eqb, ◌≢◌, List, [], length, Some, None, Option, sym, refl, ap, ◌∙◌, subst, ap₂, subst₂, inl, inr, arith}
-use Rattle.std.specs.List.{AllByRecursion as All}
+use Rattle.std.specs.List.{AllByRecursion}
 use Rattle.std.proofs.ByRecursion.{All-append}
 use Rattle.std.proofs.lemmas.Bool.{cases_eq, eq-eqb, ne_eqb, lt-ltb}
 use Rattle.flash.specs.Meaning.{Flash, Page, blank, holds}
@@ -103,8 +103,8 @@ pub record Ready (P L B : ℕ) (f : Flash) (e : ℕ) : Type 0 where
 pub record Done (P L B : ℕ) (s : State) (w : Work) (end : State) (e : ℕ) : Type 0 where
   pub ends : w.after ≡ end
   pub counts : w.erases ≡ e
-  pub sound : All (Sound P L) w.asked
-  pub allowed : All Allowed w.asked
+  pub sound : AllByRecursion (Sound P L) w.asked
+  pub allowed : AllByRecursion Allowed w.asked
   pub led : Led B s.tables w.changes end.tables
   pub wears : Wears B s.flash end.flash e
   pub marks : Marks (L * P) B end.flash

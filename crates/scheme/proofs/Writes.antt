@@ -1,7 +1,7 @@
 -- The writes that program one page: the first write of a sector, and those into the log blocks.
 use Rattle.std.proofs.Common.{◌≡◌, ℕ, ◌+◌, ◌*◌, ◌/◌, ◌%◌, ◌<◌, true, false, ◌≢◌, List, [], ◌∷◌, get_or, is_some, Some, Option, sym, refl, ap, ◌∙◌, ap₂, inl, inr, arith}
 use lib.Arith.{digits_div, digits_mod}
-use Rattle.std.specs.List.{AllByRecursion as All}
+use Rattle.std.specs.List.{AllByRecursion}
 use Rattle.std.proofs.ByRecursion.{All-get_or}
 use Rattle.std.proofs.lemmas.Bool.{cases_eq}
 use Rattle.flash.specs.Meaning.{Page, blank}
@@ -27,7 +27,7 @@ pub grows : (l : ℕ → Option (List ℕ)) (n : ℕ) (x : List ℕ) (k : ℕ) �
 grows l n x k h = upd_both l n (Some x) k (λ z. is_some z ≡ true) (λ _. refl) (λ _. h)
 
 -- two facts of each element give a third
-pub both_weaker : {X : Type 0} (A B C : X → Type 0) → ((x : X) → A x → B x → C x) → (xs : List X) → All A xs → All B xs → All C xs
+pub both_weaker : {X : Type 0} (A B C : X → Type 0) → ((x : X) → A x → B x → C x) → (xs : List X) → AllByRecursion A xs → AllByRecursion B xs → AllByRecursion C xs
 both_weaker A B C f [] a b = tt
 both_weaker A B C f (x ∷ xs) a b = (f x a.0 b.0, both_weaker A B C f xs a.1 b.1)
 

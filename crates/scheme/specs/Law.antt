@@ -1,6 +1,6 @@
 -- The law of runs: what holds of every list of calls on every device from format on, and how a call adds to it.
 use Rattle.std.specs.Prelude.{◌≡◌, ℕ, ◌+◌, ◌/◌, ◌<◌, ◌≤◌, List, [], ◌∷◌, ◌++◌}
-use Rattle.std.specs.List.{AllByRecursion as All}
+use Rattle.std.specs.List.{AllByRecursion}
 use Rattle.flash.specs.Meaning.{blank}
 use Rattle.scheme.specs.Asks.{Sound, Unrefused}
 use Rattle.scheme.specs.Functions.{sum_below}
@@ -38,7 +38,7 @@ pub record CallCounted (t : Turn) : Type 0 where
 -- Each block has just one role, and what is free is blank.
 pub record RolesRight (y : Layer) : Type 0 where
   pub right : TablesRight y.pages y.logical y.random y.state.flash.blocks y.state.tables
-  pub free_blank : All (λ b. (p : ℕ) → y.state.flash.page b p ≡ blank) y.state.tables.free
+  pub free_blank : AllByRecursion (λ b. (p : ℕ) → y.state.flash.page b p ≡ blank) y.state.tables.free
 
 -- So it is after a call, and the call changed each role as the match of role and event allows.
 pub record RolesKept (t : Turn) : Type 0 where
@@ -58,12 +58,12 @@ pub record RolesKept (t : Turn) : Type 0 where
 pub record Law (start : Start) (calls : List Call) (rs : List Reply) : Type 0 where
   pub replied : rs ≡ replies start calls
   pub answers : AllAnswered (first_ledger start) calls rs
-  pub asks : All (λ t. All (Sound t.before.pages t.before.logical) t.outcome.asked) (run start calls)
-  pub unrefused : All (λ t. All Unrefused t.outcome.asked) (run start calls)
-  pub roles : 0 < (format start).logical → RolesRight (format start) × All RolesKept (run start calls)
+  pub asks : AllByRecursion (λ t. AllByRecursion (Sound t.before.pages t.before.logical) t.outcome.asked) (run start calls)
+  pub unrefused : AllByRecursion (λ t. AllByRecursion Unrefused t.outcome.asked) (run start calls)
+  pub roles : 0 < (format start).logical → RolesRight (format start) × AllByRecursion RolesKept (run start calls)
   pub counted : erases (reached start calls) ≡ erases (format start) + all_told rs
   pub bounded : let w = overwrites start calls rs in all_told rs ≤ w + w / (format start).pages
-  pub each : All CallCounted (run start calls)
+  pub each : AllByRecursion CallCounted (run start calls)
 
 -- For every device and every arguments of format, fit or not, and every list of calls, some of them refused.
 abbrev pub EveryRunIsLawful : Type 0

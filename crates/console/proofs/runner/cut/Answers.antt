@@ -3,5 +3,5 @@ use Rattle.std.proofs.lemmas.List.Sums.{prefix_len-le-length}
 use Rattle.console.specs.Commands.{other_than}
 use Rattle.console.proofs.runner.cut.Goals as goal
 
-pub slice-bounds-result-end : goal.slice-bounds-result-end
-slice-bounds-result-end c = omega (arith, prefix_len-le-length (other_than 0) c.args.buffer.now)
+pub slice_bounds-result-end : goal.slice_bounds-result-end
+slice_bounds-result-end c = omega (arith, prefix_len-le-length (other_than 0) c.args.buffer.now)

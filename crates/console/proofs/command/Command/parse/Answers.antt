@@ -9,16 +9,16 @@ pub returns-then-line-lt2 : goal.returns-then-line-lt2
 unfolding said
 returns-then-line-lt2 c = record { command = search rules; law = spelling _ _ (search rules) }
 
-pub returns-in_err-parse_number : goal.returns-in_err-parse_number
-returns-in_err-parse_number c =
+pub returns-in_err-parse_number-in-114 : goal.returns-in_err-parse_number-in-114
+returns-in_err-parse_number-in-114 c =
     let e = ap command_told c.from_residual.ensures
-    ∙ ap read_of (c.in_err-parse_number.ensures ∙ ap number_of (take_rest c.args.line.now 2))
+    ∙ ap read_of (c.in_err-parse_number-in-114.ensures ∙ ap number_of (take_rest c.args.line.now 2))
     ∙ sym (said_r c.args.line.now (omega arith) (omega arith) (omega arith)) in
     record { command = e; law = spelling _ _ e }
 
-pub returns-in_ok-parse_number : goal.returns-in_ok-parse_number
-returns-in_ok-parse_number c =
-    let e = ap read_of (c.in_ok-parse_number.ensures ∙ ap number_of (take_rest c.args.line.now 2))
+pub returns-in_ok-parse_number-in-114 : goal.returns-in_ok-parse_number-in-114
+returns-in_ok-parse_number-in-114 c =
+    let e = ap read_of (c.in_ok-parse_number-in-114.ensures ∙ ap number_of (take_rest c.args.line.now 2))
     ∙ sym (said_r c.args.line.now (omega arith) (omega arith) (omega arith)) in
     record { command = e; law = spelling _ _ e }
 
