@@ -4,7 +4,6 @@ use Rattle.console.specs.Running.{Prints}
 use Rattle.fast.specs.Told.{started}
 use Rattle.flash.specs.Stored.{image_flash}
 use Rattle.scheme.specs.Runs.{format}
-use Rattle.std.proofs.lemmas.Result.{IfOk-weaker}
 use Rattle.store.specs.Layered.{layer_table}
 use Rattle.bench.proofs.Module.{module_of}
 use Rattle.bench.proofs.fresh.respond_on_module.Goals as goal
@@ -17,6 +16,6 @@ returns c =
     let done = c.in_ok-respond_fresh.ensures in
     let text = lines c.args.input.now in
     record {
-      prints = λ short. let told = done.prints short in (told.0, subst (λ f. Prints (layer_table (format (started f 4 2 1))) 1 text (vec_items _) told.0) device told.1);
+      prints = λ short. let told = done.prints short in (told.0, subst (λ f. Prints (layer_table (format (started f 4 2 1))) 1 text (vec_items c.in_ok-respond_fresh.field-0) told.0) device told.1);
       refuses = done.refuses;
     }
