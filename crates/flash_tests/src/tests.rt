@@ -290,7 +290,7 @@ fn a_join_shows_at_most_65_536_blocks(rt: HostRuntime) -> Result<(), Fail> {
             Case(Call::Read(last, 0, 512), 2),
             Case(Call::Read(blocks, 0, 512), 1),
         ];
-        run(&rt, &mut join, &cases).note(i)?;
+        run(&rt, &mut join, &cases)?;
     }
     Ok(())
 }
@@ -320,7 +320,7 @@ fn a_window_is_cut_at_the_end(rt: HostRuntime) -> Result<(), Fail> {
             Case(Call::Erase(blocks), 1),
             Case(Call::Count(blocks), 1),
         ];
-        run(&rt, &mut window, &past).note(i)?;
+        run(&rt, &mut window, &past)?;
     }
     Ok(())
 }
