@@ -1,5 +1,5 @@
-use Rattle.std.proofs.Common.{length, replicate, sym, ap, ◌∙◌, subst}
-use Rattle.flash.specs.Calls.{read_answer, read_buffer}
+use Rattle.std.proofs.Common.{◌≡◌, length, replicate, sym, ap, ◌∙◌, subst, rules}
+use Rattle.flash.specs.Calls.{good, read_answer, read_buffer, erase_answer}
 use Rattle.flash.specs.Laws.{then_filled, OnceErased}
 use Rattle.flash.specs.Meaning.{Proper}
 use Rattle.flash.proofs.Properly.{erased_proper}
@@ -14,7 +14,7 @@ returns g c =
     let was = c.args.buffer.now in
     let left = c.erase.ensures.after in
     let told = c.read.ensures.answer ∙ ap (λ h. read_answer h b o (length was)) left in
-    let ok = c.in_ok-erase.ensures.answer in
+    let ok : good tt ≡ erase_answer f b = search rules in
     record {
       answer = told ∙ erase_told f b ok o (length was);
       filled = c.read.ensures.filled ∙ (ap (λ h. read_buffer h b o was) left ∙ (erase_filled f b ok o was ∙ ap (λ a. then_filled a (replicate 512 0xFF) was) (sym told)));

@@ -1,5 +1,5 @@
-use Rattle.std.proofs.Common.{length, sym, ap, ◌∙◌, subst}
-use Rattle.flash.specs.Calls.{read_answer, read_buffer}
+use Rattle.std.proofs.Common.{◌≡◌, length, sym, ap, ◌∙◌, subst, rules}
+use Rattle.flash.specs.Calls.{good, read_answer, read_buffer, program_answer}
 use Rattle.flash.specs.Laws.{then_filled, SameButPage}
 use Rattle.flash.specs.Meaning.{Proper}
 use Rattle.flash.proofs.Properly.{programmed_proper}
@@ -17,7 +17,7 @@ returns g c =
     let was = c.args.buffer.now in
     let left = c.program.ensures.after in
     let told = c.read.ensures.answer ∙ ap (λ h. read_answer h b o (length was)) left in
-    let ok = c.in_ok-program.ensures.answer in
+    let ok : good tt ≡ program_answer f b o s (length bs) = search rules in
     record {
       answer = told ∙ program_told f b o s t bs ok (length was);
       filled = c.read.ensures.filled ∙ (ap (λ h. read_buffer h b o was) left ∙ (program_filled f b o s t bs ok was ∙ ap (λ a. then_filled a bs was) (sym told)));
