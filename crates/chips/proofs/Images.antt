@@ -1,8 +1,8 @@
 -- A geometry that an image may state has room for its blank image in as many bytes as that image is long.
-use Rattle.std.proofs.Common.{◌≡◌, ℕ, ◌+◌, ◌*◌, true, false, cond, List, ◌++◌, length, take, drop, Some, None, sym, refl, ap, ◌∙◌, arith}
+use Rattle.std.proofs.Common.{◌≡◌, ℕ, true, Some, arith}
 use Rattle.std.proofs.lemmas.Bool.Decides.{nat_tests}
 use Rattle.flash.specs.BlankImage.{room_checked, room_at, value_at, rest_at}
-use Rattle.image.specs.Format.{image_length, accepted, faulty}
+use Rattle.image.specs.Format.{image_length, accepted}
 use Rattle.image.specs.Shape.{ranged, image_room}
 
 pub in_range : (b p l n : ℕ) → image_room b p l ≡ Some n → ranged b p l ≡ true

@@ -1,10 +1,10 @@
 -- Lines taken apart as the parser does it.
-use Rattle.std.proofs.Common.{◌≡◌, ℕ, suc, ◌+◌, ◌<◌, ◌≤◌, Bool, true, false, cond, leb, ◌⊎◌, List, [], ◌∷◌, ◌++◌, length, get_or, take, drop, Some, None, Option, sym, refl, ap, ◌∙◌, subst, inl, inr, ⊎_elim, arith, length-append, take-append-drop, drop-drop, take_at, drop_at, le-ltb, lt-ltb}
+use Rattle.std.proofs.Common.{◌≡◌, ℕ, suc, ◌+◌, ◌<◌, ◌≤◌, Bool, true, false, ◌⊎◌, List, [], ◌∷◌, ◌++◌, length, get_or, take, drop, Some, None, Option, sym, refl, ap, ◌∙◌, subst, inl, inr, ⊎_elim, arith, length-append, take-append-drop, drop-drop, take_at, drop_at, le-ltb, lt-ltb}
 use Rattle.std.proofs.lemmas.List.{drop_more}
 use Rattle.std.proofs.lemmas.Bool.{cases_eq, cases_lt, cond_both}
 use Rattle.std.proofs.lemmas.Bool.Decides.{nat_tests}
 use Rattle.std.specs.List.{prefix_len, AllByRecursion}
-use Rattle.console.specs.Commands.{Said, says_write, says_read, digit, value, Numeral, Spelling, number_of, no_space, read_of, write_of, said_write, said}
+use Rattle.console.specs.Commands.{Said, says_write, says_read, digit, Numeral, Spelling, number_of, no_space, read_of, write_of, said_write, said}
 
 -- what follows the letter of a write: a space after k bytes
 module _ (rest : List ℕ) (k : ℕ) (at : k ≡ prefix_len no_space rest) where

@@ -1,12 +1,12 @@
 -- How far the runner has come: lines done, and what is left.
-use Rattle.std.proofs.Common.{◌≡◌, ℕ, suc, ◌+◌, ◌-◌, ◌<◌, ◌≤◌, true, false, cond, eqb, List, [], ◌∷◌, ◌++◌, length, get_or, take, drop, sym, refl, ap, ◌∙◌, subst, append_assoc, append-nil, add-one, arith}
+use Rattle.std.proofs.Common.{◌≡◌, ℕ, suc, ◌+◌, ◌<◌, ◌≤◌, true, false, eqb, List, [], ◌∷◌, ◌++◌, length, get_or, drop, sym, refl, ap, ◌∙◌, subst, append_assoc, append-nil, add-one, arith}
 use Rattle.std.proofs.lemmas.List.Edits.{between_none, between_more, length-between}
 use Rattle.std.proofs.lemmas.List.{drop_more, drop_all}
 use Rattle.std.proofs.lemmas.Bool.Decides.{nat_tests}
 use Rattle.std.specs.List.{between}
 use Rattle.store.specs.Meaning.{Table}
 use Rattle.console.specs.Commands.{said}
-use Rattle.console.specs.Lines.{lines_from, lines}
+use Rattle.console.specs.Lines.{lines_from}
 use Rattle.console.specs.Running.{Adds, Prints}
 
 -- the lines of an input from byte i on, where the line there began at byte `start`

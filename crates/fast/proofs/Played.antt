@@ -1,7 +1,6 @@
 -- A list of calls made one after the other, by what is left of it.
 use Rattle.std.proofs.Common.{◌≡◌, ◌+◌, List, [], ◌∷◌, ◌++◌, length, sym, refl, ap, ◌∙◌, ap₂, append_assoc, arith}
 use Rattle.std.proofs.lemmas.List.{append-nil}
-use Rattle.scheme.specs.Ledger.{Call, Reply}
 use Rattle.scheme.specs.Runs.{Layer, call, last_layer, replies_of}
 use Rattle.fast.specs.Replay.{calls_told, replies_told, reply_told, call_told}
 use Rattle.fast.specs.declared.replay.Call as code_call

@@ -1,5 +1,5 @@
 -- A blank image is accepted and means a blank device, and the writer's answer is the check's.
-use Rattle.std.proofs.Common.{◌≡◌, ℕ, ◌+◌, ◌*◌, ◌^◌, ◌<◌, ◌≤◌, Bool, true, false, cond, ◌&&◌, eqb, ltb, List, [], ◌∷◌, length, replicate, sym, refl, ap, ◌∙◌, subst, ⊎_elim, arith}
+use Rattle.std.proofs.Common.{◌≡◌, ℕ, ◌+◌, ◌*◌, ◌^◌, ◌<◌, ◌≤◌, List, length, replicate, refl, ap, ◌∙◌, subst, ⊎_elim, arith}
 use lib.ListN.{length-replicate}
 use Rattle.std.proofs.lemmas.Nat.{mul-add-lt, mul-le}
 use Rattle.std.proofs.lemmas.Bool.{cases_lt}
@@ -23,45 +23,14 @@ use Rattle.flash.specs.BlankImage.{
   States,
   Verdict,
 }
-use Rattle.flash.specs.Meaning.{Page, blank, Flash}
+use Rattle.flash.specs.Meaning.{blank}
 use Rattle.flash.specs.Patched.{all_patched}
-use Rattle.flash.specs.Stored.{page_at, image_of, image_in, geometry_by, image_flash, Fits}
+use Rattle.flash.specs.Stored.{page_at, image_in, geometry_by, image_flash, Fits}
 use Rattle.flash.proofs.Patches.{Within, Rising, Has, length_all, word_apart, word_among, run_among, word_all}
 use Rattle.flash.proofs.Same.{same_flash}
-use Rattle.image.proofs.Checks.{Accepted, sound, complete}
+use Rattle.image.proofs.Checks.{Accepted, complete}
 use Rattle.image.specs.declared.shape.Geometry.{Geometry}
-use Rattle.image.specs.Format.{
-  word,
-  word_bytes,
-  image_length,
-  count_place,
-  sector_place,
-  Found,
-  found,
-  fault,
-  Placed,
-  placed,
-  misplaced,
-  within,
-  and_then,
-  with_shape,
-  ranged_at,
-  section_at,
-  end_at,
-  shape_at,
-  shape_blocks,
-  shape_pages,
-  shape_life,
-  checked_counts,
-  checked_sectors,
-  checked_stamps,
-  checked_contents,
-  checked_end,
-  Checked,
-  accepted,
-  faulty,
-  checked,
-}
+use Rattle.image.specs.Format.{word, word_bytes, image_length, count_place, sector_place, Found, found, fault, Placed, placed, misplaced, within, and_then, with_shape, ranged_at, section_at, end_at, shape_at, shape_blocks, shape_pages, shape_life, checked_counts, checked_sectors, checked_stamps, checked_contents, checked_end, Checked, accepted, checked}
 
 module _ (g : Geometry) (f : Fits (image_length g.blocks g.pages) g) where
   abbrev numbers : List (ℕ × List ℕ)

@@ -1,5 +1,5 @@
 -- A change of one side of a join is that change of the join.
-use Rattle.std.proofs.Common.{◌≡◌, ℕ, ◌+◌, ◌-◌, ◌<◌, ◌≤◌, min, List, length, Ok, subst, arith}
+use Rattle.std.proofs.Common.{◌≡◌, ℕ, ◌-◌, ◌<◌, ◌≤◌, List, length, Ok, subst, arith}
 use Rattle.std.proofs.lemmas.Bool.Decides.{nat_tests}
 use Rattle.flash.specs.Meaning.{Page, holds, Flash}
 use Rattle.flash.specs.Calls.{read_answer, read_buffer, program_answer, programmed, with_page, erased, with_erased}

@@ -1,9 +1,8 @@
 -- Joins and windows of proper devices are proper, and so is a proper device after a program or an erase.
-use Rattle.std.proofs.Common.{◌≡◌, ℕ, ◌≤◌, Bool, true, false, cond, List, length, arith, rules}
-use Rattle.std.proofs.lemmas.Bool.Decides.{nat_tests}
+use Rattle.std.proofs.Common.{ℕ, List, rules}
 use Rattle.flash.specs.Calls.{programmed, erased}
 use Rattle.flash.specs.Joined.{joined}
-use Rattle.flash.specs.Meaning.{Page, blank, holds, WellHeld, Flash, Proper}
+use Rattle.flash.specs.Meaning.{Flash, Proper}
 use Rattle.flash.specs.Windowed.{windowed}
 
 pub joined_proper : (f g : Flash) → Proper f → Proper g → Proper (joined f g)

@@ -1,7 +1,6 @@
 -- What is read after a program or an erase that was accepted, and what it left alone.
-use Rattle.std.proofs.Common.{◌≡◌, ℕ, List, length, replicate, arith, rules}
-use Rattle.std.proofs.lemmas.Bool.Decides.{nat_tests}
-use Rattle.flash.specs.Calls.{Answer, good, Marking, marked, unmarked, read_answer, read_buffer, program_answer, programmed, erase_answer, erased}
+use Rattle.std.proofs.Common.{◌≡◌, ℕ, List, length, replicate, rules}
+use Rattle.flash.specs.Calls.{good, marked, unmarked, read_answer, read_buffer, program_answer, programmed, erase_answer, erased}
 use Rattle.flash.specs.Laws.{then_read, then_filled, SameButPage, OnceErased}
 use Rattle.flash.specs.Meaning.{Flash}
 

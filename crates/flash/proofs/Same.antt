@@ -2,7 +2,7 @@
 use Rattle.std.proofs.Common.{◌≡◌, ℕ, ◌<◌, List, length, arith}
 use Rattle.std.proofs.lemmas.Bool.Decides.{nat_tests}
 use Rattle.flash.specs.Calls.{read_answer, read_buffer, good, marked}
-use Rattle.flash.specs.Meaning.{Page, holds, Flash}
+use Rattle.flash.specs.Meaning.{holds, Flash}
 
 pub same_flash : (f g : Flash) → f.blocks ≡ g.blocks → f.pages ≡ g.pages → f.life ≡ g.life →
     ((c : ℕ) → f.count c ≡ g.count c) → ((c i : ℕ) → f.page c i ≡ g.page c i) → f ≡ g

@@ -1,5 +1,5 @@
 -- A change of a device under a window is that change of the window.
-use Rattle.std.proofs.Common.{◌≡◌, ℕ, ◌+◌, ◌<◌, List, length, arith}
+use Rattle.std.proofs.Common.{◌≡◌, ℕ, ◌+◌, ◌<◌, List, arith}
 use Rattle.std.proofs.lemmas.Bool.Decides.{nat_tests}
 use Rattle.flash.specs.Meaning.{Page, holds, Flash}
 use Rattle.flash.specs.Calls.{read_answer, read_buffer, program_answer, programmed, with_page}

@@ -1,6 +1,6 @@
 -- The image of a blank chip, and which bytes can take it.
 use Rattle.std.specs.Prelude.{◌≡◌, ℕ, ◌+◌, ◌*◌, ◌≤◌, cond, ◌&&◌, List, [], ◌∷◌, length, replicate, Ok, Err, Result, nat_le, nat_lt}
-use Rattle.flash.specs.Meaning.{Page, blank, holds, Flash}
+use Rattle.flash.specs.Meaning.{blank, Flash}
 use Rattle.flash.specs.Patched.{all_patched}
 use Rattle.image.specs.Format.{word, word_bytes, image_length, Found, found, fault, within, Checked, accepted, faulty, and_then, checked}
 use Rattle.image.specs.Told.{problem_number, section_number}

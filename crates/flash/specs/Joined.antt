@@ -1,7 +1,7 @@
 -- What the join of two devices means: the blocks of the first, then those of the second, at most 65,536 in all.
 use Rattle.std.specs.Prelude.{◌≡◌, ℕ, ◌+◌, ◌-◌, ◌<◌, ◌≤◌, min, cond, ◌&&◌, List, length, Ok, Err, Result, ◌==◌, nat_le, nat_lt}
 use Rattle.flash.specs.Calls.{accepts, program_answer, programmed, erase_answer, erased}
-use Rattle.flash.specs.Meaning.{Page, blank, holds, Flash}
+use Rattle.flash.specs.Meaning.{blank, Flash}
 use Rattle.flash.specs.declared.device.Refusal.{Refusal}
 use Rattle.flash.specs.declared.device.Refusal.TheVariants.{NoSuchBlock}
 use Rattle.flash.specs.declared.join.Side.{Side}

@@ -1,9 +1,9 @@
 -- What follows from the meaning of the calls, in the words of whoever uses a device: what is read after a program or an erase, and what
 -- stays.
-use Rattle.std.specs.Prelude.{◌≡◌, ℕ, ◌+◌, ◌≤◌, cond, List, length, ◌==◌, ◌≢◌, nat_lt}
+use Rattle.std.specs.Prelude.{◌≡◌, ℕ, ◌+◌, ◌≤◌, cond, List, ◌==◌, ◌≢◌, nat_lt}
 use Rattle.flash.specs.Calls.{Answer, good, refused, accepts, Marking}
 use Rattle.flash.specs.Joined.{joined}
-use Rattle.flash.specs.Meaning.{Page, blank, holds, Flash, Proper}
+use Rattle.flash.specs.Meaning.{blank, Flash, Proper}
 use Rattle.flash.specs.Windowed.{windowed}
 
 -- The answer of a call that may be refused, and then of a read of page o into n bytes that finds the mark m.

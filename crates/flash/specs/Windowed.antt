@@ -1,7 +1,7 @@
 -- What a window means: some blocks of a device in a row, with its pages and its life.
 use Rattle.std.specs.Prelude.{◌≡◌, ℕ, ◌+◌, ◌-◌, ◌<◌, ◌≤◌, min, cond, List, Ok, Err, Result, nat_lt}
 use Rattle.flash.specs.Calls.{programmed, erased}
-use Rattle.flash.specs.Meaning.{Page, blank, holds, Flash}
+use Rattle.flash.specs.Meaning.{blank, Flash}
 use Rattle.flash.specs.declared.device.Refusal.{Refusal}
 use Rattle.flash.specs.declared.device.Refusal.TheVariants.{NoSuchBlock}
 use Rattle.flash.specs.declared.numbers.Block.{Block}

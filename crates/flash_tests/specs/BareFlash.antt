@@ -1,6 +1,6 @@
 -- A device of blocks without pages, which cannot be erased.
 use Rattle.std.specs.Prelude.{ℕ}
-use Rattle.flash.specs.Meaning.{Page, blank, holds, Flash}
+use Rattle.flash.specs.Meaning.{blank, Flash}
 
 abbrev pub bare_flash : ℕ → Flash
 bare_flash n = record {

@@ -1,10 +1,10 @@
 -- Bytes that have everything that the check asks are the image of a chip in range.
-use Rattle.std.proofs.Common.{◌≡◌, ℕ, zero, suc, ◌+◌, ◌*◌, ◌<◌, ◌≤◌, List, [], ◌∷◌, ◌++◌, length, get_or, take, drop, sym, refl, ap, ◌∙◌, arith, length-drop, take-append-drop, length-take, take_all, drop-drop, take-add, rules}
+use Rattle.std.proofs.Common.{◌≡◌, ℕ, zero, suc, ◌+◌, ◌*◌, ◌<◌, ◌≤◌, List, [], ◌∷◌, ◌++◌, length, take, drop, sym, refl, ap, ◌∙◌, arith, length-drop, take-append-drop, length-take, take_all, drop-drop, take-add}
 use Rattle.std.proofs.ByRecursion.{All-from_get_or}
 use Rattle.std.proofs.lemmas.List.{get_or-take, get_or-drop}
 use Rattle.std.specs.List.{flat_map, AllByRecursion}
 use Rattle.image.specs.Chip.{Chip, counted, numbers, encoding, InRange, Fits32, WholePage}
-use Rattle.image.specs.Format.{word, word_bytes, items_from, words_from, image_length}
+use Rattle.image.specs.Format.{word, word_bytes, items_from, words_from}
 use Rattle.image.proofs.Checks.{Accepted}
 use Rattle.image.proofs.Words.{Bytes, word_bytes_at, word_fits}
 

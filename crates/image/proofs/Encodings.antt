@@ -1,5 +1,5 @@
 -- The image of a chip in range has everything that the check asks.
-use Rattle.std.proofs.Common.{◌≡◌, ℕ, zero, suc, ◌+◌, ◌*◌, ◌/◌, ◌%◌, ◌^◌, ◌<◌, ◌≤◌, List, [], ◌∷◌, ◌++◌, length, get_or, replicate, sym, refl, ap, ◌∙◌, ⊎_elim, mul-le-mul, arith, length-append}
+use Rattle.std.proofs.Common.{◌≡◌, ℕ, zero, suc, ◌+◌, ◌*◌, ◌^◌, ◌<◌, ◌≤◌, List, [], ◌∷◌, ◌++◌, length, replicate, refl, ap, ◌∙◌, ⊎_elim, mul-le-mul, arith, length-append}
 use lib.ListN.{length-replicate}
 use Rattle.std.proofs.ByRecursion.{All-append, All-get_or}
 use Rattle.std.proofs.lemmas.List.{get_or_past}
@@ -8,7 +8,7 @@ use Rattle.std.specs.List.{flat_map, AllByRecursion}
 use Rattle.image.specs.Chip.{Chip, counted, numbers, encoding, InRange, Fits32, WholePage, blank_chip}
 use Rattle.image.specs.Format.{word, word_bytes, image_length}
 use Rattle.image.proofs.Checks.{Accepted}
-use Rattle.image.proofs.Words.{Bytes, word_of, word_first, word_past}
+use Rattle.image.proofs.Words.{Bytes, word_of, word_past}
 
 -- items of m bytes each
 pub length_items : {X : Type 0} (bytes : X → List ℕ) (m : ℕ) (xs : List X) → AllByRecursion (λ x. length (bytes x) ≡ m) xs → length (flat_map bytes xs) ≡ m * length xs

@@ -1,11 +1,11 @@
 -- A fault that the check finds is where it says: the bytes before it begin the image of some chip, and it is really there.
-use Rattle.std.proofs.Common.{◌≡◌, ℕ, ◌+◌, ◌*◌, ◌<◌, ◌≤◌, eqb, ◌⊎◌, List, ◌++◌, length, get_or, take, drop, sym, refl, ap, ◌∙◌, subst, inl, inr, ⊎_elim, arith, length-append, length-drop, length-take, take_at, rules}
+use Rattle.std.proofs.Common.{◌≡◌, ℕ, ◌+◌, ◌*◌, ◌<◌, ◌≤◌, ◌⊎◌, List, ◌++◌, length, get_or, take, drop, sym, refl, ap, ◌∙◌, subst, inl, inr, ⊎_elim, arith, length-append, length-drop, length-take, take_at, rules}
 use Rattle.std.proofs.lemmas.List.{places}
 use Rattle.std.proofs.lemmas.Bool.{cases_eq, cases_lt}
 use Rattle.std.proofs.lemmas.Bool.Decides.{nat_tests}
-use Rattle.image.specs.Chip.{Chip, encoding, InRange, blank_chip}
+use Rattle.image.specs.Chip.{encoding, InRange, blank_chip}
 use Rattle.image.specs.Format.{word, image_length, Found, found, fault, ranged_at, section_at, end_at, Placed, placed, misplaced, within, Checked, accepted, faulty, and_then, with_shape, shape_at, shape_blocks, shape_pages, shape_life, checked_end, checked_contents, checked_stamps, checked_sectors, checked_counts, checked}
-use Rattle.image.specs.Law.{Extent, extent, most_at, Wrong, count_cut, items_cut, count_wrong, out_of_range, surplus, FaultAt}
+use Rattle.image.specs.Law.{Extent, extent, Wrong, count_cut, items_cut, count_wrong, out_of_range, surplus, FaultAt}
 use Rattle.image.proofs.Checks.{Accepted, section_found, ranged_found, shape_sound}
 use Rattle.image.proofs.Decodings.{decoded, decoded_in_range, encoding_decoded}
 use Rattle.image.proofs.Encodings.{length_encoding, encoding_accepted, encoding_bytes, blank_in_range}

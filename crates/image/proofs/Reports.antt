@@ -1,6 +1,6 @@
 -- The line that is printed for an accepted image, and for the image of a chip.
-use Rattle.std.proofs.Common.{◌≡◌, ℕ, ◌≤◌, List, length, sum, sym, ap, ◌∙◌, arith, le-ltb}
-use Rattle.image.specs.Chip.{Chip, InRange, encoding}
+use Rattle.std.proofs.Common.{◌≡◌, ℕ, ◌≤◌, List, length, sum, sym, ap, ◌∙◌, le-ltb}
+use Rattle.image.specs.Chip.{encoding}
 use Rattle.image.specs.Format.{words_from, Checked, accepted, checked}
 use Rattle.image.specs.Report.{chip_line, checked_line, look_line, ReportLaw}
 use Rattle.image.proofs.Checks.{complete}

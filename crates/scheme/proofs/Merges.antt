@@ -12,7 +12,6 @@ use Rattle.scheme.specs.Steps.{merged, turn}
 use Rattle.scheme.specs.Tables.{Tables, Sequential, stale_all, released}
 use Rattle.scheme.proofs.Changes.{role_told, led_own, led_other, led_one, led_away, led_by}
 use Rattle.scheme.proofs.Entries.{entry_stale, once_stale}
-use Rattle.scheme.proofs.Plain.{erased}
 use Rattle.scheme.proofs.Roles.{Use, free, data_of, sequential, random, outside, busy, Roles}
 use Rattle.scheme.proofs.Updates.{upd_same, upd_other, upd_both, Apart}
 

@@ -1,6 +1,6 @@
 -- Calls on a store one after the other, by what is left of them.
-use Rattle.std.proofs.Common.{◌≡◌, ℕ, ◌+◌, List, [], ◌∷◌, ◌++◌, length, Option, sym, refl, ap, ◌∙◌, subst, append_assoc, arith}
-use Rattle.std.proofs.lemmas.List.{append-nil, length_push}
+use Rattle.std.proofs.Common.{◌≡◌, ℕ, List, [], ◌∷◌, ◌++◌, length, sym, refl, ap, ◌∙◌, subst, append_assoc, arith}
+use Rattle.std.proofs.lemmas.List.{append-nil}
 use Rattle.fast.specs.declared.replay.Call as code_call
 use Rattle.fast.specs.declared.replay.Reply as code-reply
 use Rattle.fast.specs.Replay.{call_told, calls_told, reply_told, replies_told}

@@ -1,5 +1,5 @@
 -- A slot of a plain store: what a write of it leaves of the others.
-use Rattle.std.proofs.Common.{◌≡◌, ℕ, suc, ◌+◌, ◌-◌, ◌*◌, ◌/◌, ◌<◌, ◌≤◌, min, true, false, cond, eqb, ltb, List, [], ◌∷◌, ◌++◌, length, get_or, take, drop, set, Some, None, Option, sym, refl, ap, ◌∙◌, inl, ⊎_elim, mul-le-mul_left, add-one, arith, drop-drop, rules}
+use Rattle.std.proofs.Common.{◌≡◌, ℕ, ◌+◌, ◌-◌, ◌*◌, ◌/◌, ◌<◌, ◌≤◌, min, List, [], ◌∷◌, ◌++◌, length, get_or, take, drop, set, Some, None, sym, refl, ap, ◌∙◌, inl, ⊎_elim, mul-le-mul_left, add-one, arith, drop-drop}
 use borrow.Rule.Slice.PartMut.{put_mid}
 use Rattle.std.proofs.lemmas.List.{set_split, get_or-take, get_or-drop}
 use Rattle.std.proofs.lemmas.Bool.{cases_eq, cases_lt}
@@ -7,7 +7,7 @@ use Rattle.std.proofs.lemmas.Bool.Decides.{nat_tests}
 use Rattle.flash.specs.Patched.{patched, all_patched}
 use Rattle.flash.proofs.Patches.{length_patched, length_all, part_apart, part_put, Within, Apart}
 use Rattle.scheme.specs.Functions.{upd}
-use Rattle.store.specs.Meaning.{Table, Written, write_refusal}
+use Rattle.store.specs.Meaning.{Written}
 use Rattle.store.specs.Plain.{plain_size, plain_at, plain_line, plain_table, plain_set}
 
 -- one byte and then a part, written in place

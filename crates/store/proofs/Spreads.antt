@@ -1,9 +1,9 @@
 -- A write to one side of a spread is that write to the spread.
-use Rattle.std.proofs.Common.{◌≡◌, ℕ, ◌+◌, ◌*◌, ◌/◌, ◌%◌, ◌<◌, ◌≤◌, min, true, false, cond, eqb, ltb, List, length, Some, None, Option, sym, refl, ap, ◌∙◌, subst, inl, inr, ⊎_elim, arith, le-ltb, lt-ltb, eq-eqb, ne_eqb}
+use Rattle.std.proofs.Common.{◌≡◌, ℕ, ◌*◌, ◌/◌, ◌%◌, ◌<◌, min, List, Some, None, Option, sym, refl, ap, ◌∙◌, inl, ⊎_elim, arith, le-ltb, lt-ltb, eq-eqb, ne_eqb}
 use Rattle.std.proofs.lemmas.Bool.{cases_eq, cases_lt}
 use Rattle.std.proofs.lemmas.Bool.Decides.{nat_tests}
 use Rattle.scheme.specs.Functions.{upd}
-use Rattle.store.specs.Meaning.{Table, Written, write_refusal, lines_after, BarMoves}
+use Rattle.store.specs.Meaning.{Table, Written, lines_after, BarMoves}
 use Rattle.store.specs.Spread.{spread_size, by_side, spread_table}
 
 -- halves of numbers of one parity

@@ -1,5 +1,5 @@
 -- What a spread of two stores means: even sectors on the left, odd ones on the right.
-use Rattle.std.specs.Prelude.{ℕ, ◌*◌, ◌/◌, ◌%◌, min, cond, Some, None, Option, ◌==◌, nat_lt}
+use Rattle.std.specs.Prelude.{ℕ, ◌*◌, ◌/◌, ◌%◌, min, cond, None, ◌==◌, nat_lt}
 use Rattle.store.specs.Meaning.{Table}
 
 -- Twice the smaller side, at most 65,536.

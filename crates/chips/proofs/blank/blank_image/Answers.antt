@@ -1,4 +1,4 @@
-use Rattle.std.proofs.Common.{◌≡◌, ℕ, ◌≤◌, length, take, drop, sym, ap, ◌∙◌, arith, take_at}
+use Rattle.std.proofs.Common.{◌≡◌, ℕ, length, drop, sym, ap, ◌∙◌, arith, take_at}
 use Rattle.flash.specs.Stored.{image_flash}
 use Rattle.chips.proofs.Images.{in_range, length_of, room_fits}
 use Rattle.chips.proofs.blank.blank_image.Goals as goal

@@ -1,6 +1,5 @@
-use Rattle.std.proofs.Common.{◌≡◌, rules}
+use Rattle.std.proofs.Common.{rules}
 use Rattle.image.specs.Format.{checked}
-use Rattle.image.specs.Told.{check_told}
 use Rattle.image.proofs.Laws.{check_law}
 use Rattle.image.proofs.check.check.Goals as goal
 

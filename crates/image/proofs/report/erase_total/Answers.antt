@@ -1,4 +1,4 @@
-use Rattle.std.proofs.Common.{sym, ap, ◌∙◌, arith}
+use Rattle.std.proofs.Common.{arith}
 use Rattle.image.proofs.report.erase_total.Goals as goal
 use Rattle.image.proofs.Totals.{total_more}
 

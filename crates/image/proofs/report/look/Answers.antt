@@ -1,4 +1,4 @@
-use Rattle.std.proofs.Common.{◌≡◌, sym, ap, ◌∙◌, arith}
+use Rattle.std.proofs.Common.{sym, ap, ◌∙◌, arith}
 use Rattle.image.specs.Report.{chip_line}
 use Rattle.image.proofs.Checks.{sound}
 use Rattle.image.proofs.Reports.{look_checked, report_law}

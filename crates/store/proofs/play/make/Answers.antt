@@ -1,4 +1,4 @@
-use Rattle.std.proofs.Common.{sym, ap, ◌∙◌, arith}
+use Rattle.std.proofs.Common.{ap, ◌∙◌, arith}
 use Rattle.fast.specs.Replay.{call_told}
 use Rattle.fast.specs.Told.{read_told}
 use Rattle.std.proofs.lemmas.List.{take_at}

@@ -1,4 +1,4 @@
-use Rattle.std.proofs.Common.{◌∙◌, arith}
+use Rattle.std.proofs.Common.{arith}
 use Rattle.store.proofs.Spreads.{left_written, right_written}
 use Rattle.store.proofs.spread.SpreadStore.write.Goals as goal
 
