@@ -153,12 +153,12 @@ spelling line x e = record {
       ⊎_elim
       (λ r. absurd (not_read (number_of (drop 2 line)) n text r.1))
       (λ q. let z = from_rest (drop 2 line) (says_write n text) q.1 in
-      let n-is : z.0 ≡ n = cc z.6 in
-      let text-is : z.2 ≡ text = cc z.6 in (
+      let n_is : z.0 ≡ n = cc z.6 in
+      let text_is : z.2 ≡ text = cc z.6 in (
         z.1,
-        subst (Numeral z.1) n-is z.3,
-        subst (λ (t : List ℕ). length t ≤ 512) text-is z.4,
-        two_and_rest line 119 32 w.0 q.0 w.1 ∙ ap (λ rest. 119 ∷ 32 ∷ rest) (z.5 ∙ ap (λ t. z.1 ++ (32 ∷ t)) text-is),
+        subst (Numeral z.1) n_is z.3,
+        subst (λ (t : List ℕ). length t ≤ 512) text_is z.4,
+        two_and_rest line 119 32 w.0 q.0 w.1 ∙ ap (λ rest. 119 ∷ 32 ∷ rest) (z.5 ∙ ap (λ t. z.1 ++ (32 ∷ t)) text_is),
       ))
       w.2;
 }

@@ -27,10 +27,10 @@ pub uses_front : (b : ℕ) (xs : List Block) → 0 < length xs → uses b xs ≡
 uses_front b [] h = absurd (omega arith)
 uses_front b (x ∷ xs) h = refl
 
-pub getD_numbers : (xs : List Block) (i : ℕ) (x : Block) → i < length xs → x ≡ get_or xs i x → x.0 ≡ get_or (numbers xs) i 0
-getD_numbers [] i x h e = absurd (omega arith)
-getD_numbers (y ∷ xs) zero x h e = ap (λ (b : Block). b.0) e
-getD_numbers (y ∷ xs) (suc i) x h e = getD_numbers xs i x (omega arith) e
+pub get_or_numbers : (xs : List Block) (i : ℕ) (x : Block) → i < length xs → x ≡ get_or xs i x → x.0 ≡ get_or (numbers xs) i 0
+get_or_numbers [] i x h e = absurd (omega arith)
+get_or_numbers (y ∷ xs) zero x h e = ap (λ (b : Block). b.0) e
+get_or_numbers (y ∷ xs) (suc i) x h e = get_or_numbers xs i x (omega arith) e
 
 pub numbers_push : (xs : List Block) (x : Block) → numbers (xs ++ (x ∷ [])) ≡ numbers xs ++ (x.0 ∷ [])
 numbers_push [] x = refl
@@ -78,8 +78,8 @@ was_released c k e = rw eq-eqb refl
 
 -- a data block replaced by the first free block
 module _ (map : List Block) (logs free logs' free' : List Block) (i : ℕ) (new old : Block) (h : i < length map) (k : 0 < length free)
-    (is-new : new.0 ≡ get_or (numbers free) 0 0) (is-old : old.0 ≡ get_or (numbers map) i 0)
-    (same-logs : logs' ≡ logs) (new-free : free' ≡ drop 1 free ++ (old ∷ [])) where
+    (is_new : new.0 ≡ get_or (numbers free) 0 0) (is_old : old.0 ≡ get_or (numbers map) i 0)
+    (same_logs : logs' ≡ logs) (new_free : free' ≡ drop 1 free ++ (old ∷ [])) where
   pub renewed_roles : (B : ℕ) (sw : Option Sw) → OneRole B map sw logs free → OneRole B (set map i new) sw logs' free'
   renewed_roles B sw r b =
       omega (
@@ -88,10 +88,10 @@ module _ (map : List Block) (logs free logs' free' : List Block) (i : ℕ) (new 
         uses_front b free k,
         uses_push b (drop 1 free) old,
         r b,
-        ap (uses b) same-logs,
-        ap (uses b) new-free,
-        ap (same b) is-new,
-        ap (same b) is-old,
+        ap (uses b) same_logs,
+        ap (uses b) new_free,
+        ap (same b) is_new,
+        ap (same b) is_old,
       )
 
   pub renewed_led : (B : ℕ) (sw : Option Sw) → OneRole B map sw logs free → (es es' : List code.Entry) (n n' : ℕ)
@@ -101,9 +101,9 @@ module _ (map : List Block) (logs free logs' free' : List Block) (i : ℕ) (new 
       let r₁ = r b in
       let a = uses_at b map i h in
       let f = uses_front b free k in
-      let g = ap (uses b) new-free ∙ uses_push b (drop 1 free) old in
-      let o = ap (same b) is-old in
-      rw (role_counted map sw logs es free n b, role_counted (set map i new) sw logs' es' free' n' b, ap (uses b) same-logs)
+      let g = ap (uses b) new_free ∙ uses_push b (drop 1 free) old in
+      let o = ap (same b) is_old in
+      rw (role_counted map sw logs es free n b, role_counted (set map i new) sw logs' es' free' n' b, ap (uses b) same_logs)
       (leads_two taken_as_data (get_or (numbers free) 0 0) (get_or (numbers map) i 0) b (role_by (uses b free) (uses b logs) (uses_sw b sw)) (role_by (uses b free') (uses b logs) (uses_sw b sw))
       (λ x y. absurd (omega arith))
       (λ x y. taken (uses b free) (uses b logs) (uses_sw b sw) (uses b free') (omega arith) (omega arith) (omega arith) (omega arith))
@@ -120,10 +120,10 @@ module _ (map : List Block) (logs free logs' free' : List Block) (i : ℕ) (new 
       → entries_view entries' ≡ stale_all (λ n. eqb (n / P) i) (entries_view entries)
       → view (set map i new) sw logs' entries' free' next ≡ merged P i (get_or (numbers free) 0 0) (drop 1 (numbers free)) (get_or (numbers map) i 0 ∷ []) (view map sw logs entries free next)
   renewed_view P sw entries entries' next none e =
-      let d = set_map map i new h ∙ ap (upd (λ k. get_or (numbers map) k 0) i) is-new in
+      let d = set_map map i new h ∙ ap (upd (λ k. get_or (numbers map) k 0) i) is_new in
       let q = sym (not_released i (sw_view sw) none) in
-      let l = ap numbers same-logs in
-      let f = ap numbers new-free ∙ numbers_push (drop 1 free) old ∙ ap₂ (λ xs b. xs ++ (b ∷ [])) (numbers_rest free) is-old in
+      let l = ap numbers same_logs in
+      let f = ap numbers new_free ∙ numbers_push (drop 1 free) old ∙ ap₂ (λ xs b. xs ++ (b ∷ [])) (numbers_rest free) is_old in
       λ j. record { data_block = d j; sequential = q j; logs = l j; entries = e j; free = f j; next = next }
 
 sw_gone : (sw : Option Sw) (k : Sw) → sw ≡ Some k → (b : ℕ) → uses_sw b sw ≡ same b k.block.0
@@ -134,8 +134,8 @@ let_go sw k e = sym (ap (λ q. released k.owner.0 (sw_view q)) e ∙ was_release
 
 -- a data block replaced by the sequential log block
 module _ (map : List Block) (logs free logs' free' : List Block) (sw : Option Sw) (k : Sw) (has : sw ≡ Some k) (old : Block) (h : k.owner.0 < length map)
-    (is-old : old.0 ≡ get_or (numbers map) k.owner.0 0)
-    (same-logs : logs' ≡ logs) (new-free : free' ≡ free ++ (old ∷ [])) where
+    (is_old : old.0 ≡ get_or (numbers map) k.owner.0 0)
+    (same_logs : logs' ≡ logs) (new_free : free' ≡ free ++ (old ∷ [])) where
   pub adopted_roles : (B : ℕ) → OneRole B map sw logs free → OneRole B (set map k.owner.0 k.block) None logs' free'
   adopted_roles B r b =
       omega (
@@ -144,9 +144,9 @@ module _ (map : List Block) (logs free logs' free' : List Block) (sw : Option Sw
         uses_push b free old,
         sw_gone sw k has b,
         r b,
-        ap (uses b) same-logs,
-        ap (uses b) new-free,
-        ap (same b) is-old,
+        ap (uses b) same_logs,
+        ap (uses b) new_free,
+        ap (same b) is_old,
       )
 
   pub adopted_led : (B : ℕ) → OneRole B map sw logs free → (es es' : List code.Entry) (n n' : ℕ)
@@ -156,9 +156,9 @@ module _ (map : List Block) (logs free logs' free' : List Block) (sw : Option Sw
       let r₁ = r b in
       let a = uses_at b map k.owner.0 h in
       let s = sw_gone sw k has b in
-      let g = ap (uses b) new-free ∙ uses_push b free old in
-      let o = ap (same b) is-old in
-      rw (role_counted map sw logs es free n b, role_counted (set map k.owner.0 k.block) None logs' es' free' n' b, ap (uses b) same-logs)
+      let g = ap (uses b) new_free ∙ uses_push b free old in
+      let o = ap (same b) is_old in
+      rw (role_counted map sw logs es free n b, role_counted (set map k.owner.0 k.block) None logs' es' free' n' b, ap (uses b) same_logs)
       (leads_two finished k.block.0 (get_or (numbers map) k.owner.0 0) b (role_by (uses b free) (uses b logs) (uses_sw b sw)) (role_by (uses b free') (uses b logs) 0)
       (λ x y. absurd (omega arith))
       (λ x y. switched (uses b free) (uses b logs) (uses_sw b sw) (uses b free') (omega arith) (omega arith) (omega arith) (omega arith))
@@ -177,14 +177,14 @@ module _ (map : List Block) (logs free logs' free' : List Block) (sw : Option Sw
   adopted_view P entries entries' next e =
       let d = set_map map k.owner.0 k.block h in
       let q = let_go sw k has in
-      let l = ap numbers same-logs in
-      let f = ap numbers new-free ∙ numbers_push free old ∙ ap (λ b. numbers free ++ (b ∷ [])) is-old in
+      let l = ap numbers same_logs in
+      let f = ap numbers new_free ∙ numbers_push free old ∙ ap (λ b. numbers free ++ (b ∷ [])) is_old in
       λ j. record { data_block = d j; sequential = q j; logs = l j; entries = e j; free = f j; next = next }
 
 -- a data block replaced by the first free block, and the sequential log block freed with it
 module _ (map : List Block) (logs free logs' free' : List Block) (sw : Option Sw) (k : Sw) (has : sw ≡ Some k) (new old : Block) (h : k.owner.0 < length map) (some : 0 < length free)
-    (is-new : new.0 ≡ get_or (numbers free) 0 0) (is-old : old.0 ≡ get_or (numbers map) k.owner.0 0)
-    (same-logs : logs' ≡ logs) (new-free : free' ≡ (drop 1 free ++ (old ∷ [])) ++ (k.block ∷ [])) where
+    (is_new : new.0 ≡ get_or (numbers free) 0 0) (is_old : old.0 ≡ get_or (numbers map) k.owner.0 0)
+    (same_logs : logs' ≡ logs) (new_free : free' ≡ (drop 1 free ++ (old ∷ [])) ++ (k.block ∷ [])) where
   pub replaced_roles : (B : ℕ) → OneRole B map sw logs free → OneRole B (set map k.owner.0 new) None logs' free'
   replaced_roles B r b =
       omega (
@@ -195,10 +195,10 @@ module _ (map : List Block) (logs free logs' free' : List Block) (sw : Option Sw
         uses_push b (drop 1 free ++ (old ∷ [])) k.block,
         sw_gone sw k has b,
         r b,
-        ap (uses b) same-logs,
-        ap (uses b) new-free,
-        ap (same b) is-new,
-        ap (same b) is-old,
+        ap (uses b) same_logs,
+        ap (uses b) new_free,
+        ap (same b) is_new,
+        ap (same b) is_old,
       )
 
   pub replaced_led : (B : ℕ) → OneRole B map sw logs free → (es es' : List code.Entry) (n n' : ℕ)
@@ -209,10 +209,10 @@ module _ (map : List Block) (logs free logs' free' : List Block) (sw : Option Sw
       let a = uses_at b map k.owner.0 h in
       let s = sw_gone sw k has b in
       let f = uses_front b free some in
-      let g = ap (uses b) new-free ∙ uses_push b (drop 1 free ++ (old ∷ [])) k.block in
+      let g = ap (uses b) new_free ∙ uses_push b (drop 1 free ++ (old ∷ [])) k.block in
       let p = uses_push b (drop 1 free) old in
-      let o = ap (same b) is-old in
-      rw (role_counted map sw logs es free n b, role_counted (set map k.owner.0 new) None logs' es' free' n' b, ap (uses b) same-logs)
+      let o = ap (same b) is_old in
+      rw (role_counted map sw logs es free n b, role_counted (set map k.owner.0 new) None logs' es' free' n' b, ap (uses b) same_logs)
       (leads_three taken_as_data (get_or (numbers free) 0 0) (get_or (numbers map) k.owner.0 0) k.block.0 b (role_by (uses b free) (uses b logs) (uses_sw b sw)) (role_by (uses b free') (uses b logs) 0)
       (λ x. (omega arith, omega arith))
       (λ y z. absurd (omega arith))
@@ -234,12 +234,12 @@ module _ (map : List Block) (logs free logs' free' : List Block) (sw : Option Sw
       → entries_view entries' ≡ stale_all (λ n. eqb (n / P) k.owner.0) (entries_view entries)
       → view (set map k.owner.0 new) None logs' entries' free' next ≡ merged P k.owner.0 (get_or (numbers free) 0 0) (drop 1 (numbers free)) (get_or (numbers map) k.owner.0 0 ∷ k.block.0 ∷ []) (view map sw logs entries free next)
   replaced_view P entries entries' next e =
-      let d = set_map map k.owner.0 new h ∙ ap (upd (λ i. get_or (numbers map) i 0) k.owner.0) is-new in
+      let d = set_map map k.owner.0 new h ∙ ap (upd (λ i. get_or (numbers map) i 0) k.owner.0) is_new in
       let q = let_go sw k has in
-      let l = ap numbers same-logs in
+      let l = ap numbers same_logs in
       let f =
-      ap numbers new-free ∙ numbers_push (drop 1 free ++ (old ∷ [])) k.block
-      ∙ ap (λ xs. xs ++ (k.block.0 ∷ [])) (numbers_push (drop 1 free) old ∙ ap₂ (λ xs b. xs ++ (b ∷ [])) (numbers_rest free) is-old)
+      ap numbers new_free ∙ numbers_push (drop 1 free ++ (old ∷ [])) k.block
+      ∙ ap (λ xs. xs ++ (k.block.0 ∷ [])) (numbers_push (drop 1 free) old ∙ ap₂ (λ xs b. xs ++ (b ∷ [])) (numbers_rest free) is_old)
       ∙ append_assoc (drop 1 (numbers free)) (get_or (numbers map) k.owner.0 0 ∷ []) (k.block.0 ∷ []) in
       λ j. record { data_block = d j; sequential = q j; logs = l j; entries = e j; free = f j; next = next }
 
@@ -298,12 +298,12 @@ busy_few (Some k) = omega arith
 module _ (B : ℕ) (map : List Block) (es es' : List code.Entry) (n n' : ℕ) where
   pub opened_led : (logs free free' : List Block) (k : Sw) → 0 < length free → k.block.0 ≡ get_or (numbers free) 0 0 → free' ≡ drop 1 free → OneRole B map None logs free
       → Led B (view map None logs es free n) (turn taken_as_sequential (get_or (numbers free) 0 0) ∷ []) (view map (Some k) logs es' free' n')
-  opened_led logs free free' k some is-new new-free r b lt =
+  opened_led logs free free' k some is_new new_free r b lt =
       let one : cond {A = ℕ} (ltb b B) 1 0 ≡ 1 = ap (λ q. cond {A = ℕ} q 1 0) (lt-ltb b B lt) in
       let r₁ = r b in
       let f = uses_front b free some in
-      let g = ap (uses b) new-free in
-      let s = ap (same b) is-new in
+      let g = ap (uses b) new_free in
+      let s = ap (same b) is_new in
       rw (role_counted map None logs es free n b, role_counted map (Some k) logs es' free' n' b)
       (leads_one taken_as_sequential (get_or (numbers free) 0 0) b (role_by (uses b free) (uses b logs) 0) (role_by (uses b free') (uses b logs) (same b k.block.0))
       (λ x. taken (uses b free) (uses b logs) (uses b free') (same b k.block.0) (omega arith) (omega arith) (omega arith) (omega arith))
@@ -315,13 +315,13 @@ module _ (B : ℕ) (map : List Block) (es es' : List code.Entry) (n n' : ℕ) wh
   module _ (sw : Option Sw) (logs logs' free free' : List Block) (x : Block) (r : OneRole B map sw logs free) where
     pub logged_led : 0 < length free → x.0 ≡ get_or (numbers free) 0 0 → free' ≡ drop 1 free → logs' ≡ logs ++ (x ∷ [])
         → Led B (view map sw logs es free n) (turn taken_as_random (get_or (numbers free) 0 0) ∷ []) (view map sw logs' es' free' n')
-    logged_led some is-new new-free new-logs b lt =
+    logged_led some is_new new_free new_logs b lt =
         let one : cond {A = ℕ} (ltb b B) 1 0 ≡ 1 = ap (λ q. cond {A = ℕ} q 1 0) (lt-ltb b B lt) in
         let r₁ = r b in
         let f = uses_front b free some in
-        let g = ap (uses b) new-free in
-        let l = ap (uses b) new-logs ∙ uses_push b logs x in
-        let s = ap (same b) is-new in
+        let g = ap (uses b) new_free in
+        let l = ap (uses b) new_logs ∙ uses_push b logs x in
+        let s = ap (same b) is_new in
         rw (role_counted map sw logs es free n b, role_counted map sw logs' es' free' n' b)
         (leads_one taken_as_random (get_or (numbers free) 0 0) b (role_by (uses b free) (uses b logs) (uses_sw b sw)) (role_by (uses b free') (uses b logs') (uses_sw b sw))
         (λ y. taken (uses b logs) (uses_sw b sw) (uses b free) (uses b free') (uses b logs') (omega arith) (omega arith) (omega arith))
@@ -332,13 +332,13 @@ module _ (B : ℕ) (map : List Block) (es es' : List code.Entry) (n n' : ℕ) wh
 
     pub retired_led : 0 < length logs → x.0 ≡ get_or (numbers logs) 0 0 → logs' ≡ drop 1 logs → free' ≡ free ++ (x ∷ [])
         → Led B (view map sw logs es free n) (turn erased (get_or (numbers logs) 0 0) ∷ []) (view map sw logs' es' free' n')
-    retired_led some is-old new-logs new-free b lt =
+    retired_led some is_old new_logs new_free b lt =
         let one : cond {A = ℕ} (ltb b B) 1 0 ≡ 1 = ap (λ q. cond {A = ℕ} q 1 0) (lt-ltb b B lt) in
         let r₁ = r b in
         let l = uses_front b logs some in
-        let g = ap (uses b) new-logs in
-        let f = ap (uses b) new-free ∙ uses_push b free x in
-        let s = ap (same b) is-old in
+        let g = ap (uses b) new_logs in
+        let f = ap (uses b) new_free ∙ uses_push b free x in
+        let s = ap (same b) is_old in
         rw (role_counted map sw logs es free n b, role_counted map sw logs' es' free' n' b)
         (leads_one erased (get_or (numbers logs) 0 0) b (role_by (uses b free) (uses b logs) (uses_sw b sw)) (role_by (uses b free') (uses b logs') (uses_sw b sw))
         (λ y. freed (uses b logs') (uses_sw b sw) (uses b free) (uses b logs) (uses b free') (omega arith) (omega arith) (omega arith))

@@ -75,9 +75,9 @@ leads_three e x y z b r q alone apart first second third other =
     elim (cases_eq x b) [
       | inl i ↦
           let a = alone (same_is b x i) in
-          let not-y : y ≢ b = λ j. omega (arith, same_is b y j, a.0) in
-          let not-z : z ≢ b = λ j. omega (arith, same_is b z j, a.1) in
-          led_own b (turn e x) (turn erased y ∷ turn erased z ∷ []) r q i (first (same_is b x i)) ∙ led_other b (turn erased y) (turn erased z ∷ []) q not-y ∙ led_other b (turn erased z) [] q not-z
+          let not_y : y ≢ b = λ j. omega (arith, same_is b y j, a.0) in
+          let not_z : z ≢ b = λ j. omega (arith, same_is b z j, a.1) in
+          led_own b (turn e x) (turn erased y ∷ turn erased z ∷ []) r q i (first (same_is b x i)) ∙ led_other b (turn erased y) (turn erased z ∷ []) q not_y ∙ led_other b (turn erased z) [] q not_z
       | inr m ↦ led_other b (turn e x) (turn erased y ∷ turn erased z ∷ []) r m
           ∙ leads_two erased y z b r q apart (second (same_not b x m)) (third (same_not b x m)) (other (same_not b x m))
     ]

@@ -5,7 +5,7 @@ use Rattle.flash.specs.Meaning.{Flash}
 use Rattle.scheme.specs.Law.{Begun, Lawful}
 use Rattle.scheme.specs.Ledger.{Call, Reply, refused, wrote, write, read, reads, shown}
 use Rattle.scheme.specs.Runs.{Start, Layer, Outcome, format, sectors, unchanged, call, write_refusal, content}
-use Rattle.scheme.specs.Steps.{write as write-steps}
+use Rattle.scheme.specs.Steps.{write as write_steps}
 use Rattle.scheme.proofs.Runs.{every_run_is_lawful, every_call_is_lawful}
 use Rattle.fast.specs.Leaves.{at, Left}
 use Rattle.fast.specs.Meaning.{view_of}
@@ -41,11 +41,11 @@ unfolding write_refusal
 no_sectors f n bytes = rw (write_refusal, le-ltb n 0 (omega arith)) refl
 
 pub accepted_write : (f g : Flash) (t u : Tables) (n : ℕ) (bytes : List ℕ) (e k : ℕ) → None ≡ write_refusal (meant f (Some t)) n bytes
-    → Left (write-steps t.sizes.pages t.sizes.random n bytes (at f (view_of t))) g (view_of u) e k → u.sizes ≡ t.sizes
+    → Left (write_steps t.sizes.pages t.sizes.random n bytes (at f (view_of t))) g (view_of u) e k → u.sizes ≡ t.sizes
     → Written (meant f (Some t)) (meant g (Some u)) n bytes (record { answer = wrote e k; buffer = bytes })
 unfolding call
 accepted_write f g t u n bytes e k none left z =
-    let w = write-steps t.sizes.pages t.sizes.random n bytes (at f (view_of t)) in
+    let w = write_steps t.sizes.pages t.sizes.random n bytes (at f (view_of t)) in
     let o : call (meant f (Some t)) (write n bytes) ≡ record { after = record { pages = t.sizes.pages; logical = t.sizes.logical; random = t.sizes.random; state = w.after }; reply = record { answer = wrote w.erases w.copies; buffer = bytes }; asked = w.asked; changes = w.changes } = rw (call, sym none) refl in
     let y : ◌≡◌ {A = Layer} (meant g (Some u)) (record { pages = t.sizes.pages; logical = t.sizes.logical; random = t.sizes.random; state = w.after }) =
     ap₂ (λ (x : Sizes) s. record { pages = x.pages; logical = x.logical; random = x.random; state = s }) z left.state in

@@ -3,7 +3,7 @@ use Rattle.std.specs.Prelude.{◌≡◌, ℕ, List, Some, None, Option}
 use Rattle.flash.specs.Meaning.{Flash, Page, blank, holds}
 use Rattle.flash.specs.declared.device.Mark.{Mark}
 use Rattle.scheme.specs.Steps as scheme
-use Rattle.scheme.specs.Tables.{Tables as Scheme-tables}
+use Rattle.scheme.specs.Tables.{Tables as SchemeTables}
 use Rattle.scheme.specs.Work.{State, Work}
 use Rattle.fast.specs.Meaning.{view_of}
 use Rattle.fast.specs.declared.steps.Fresh.{Fresh}
@@ -24,7 +24,7 @@ abbrev pub fresh_view : Option Fresh → List ℕ → Option scheme.Fresh
 fresh_view None bytes = None
 fresh_view (Some x) bytes = Some (record { offset = x.offset.0; content = page_made x.mark bytes })
 
-abbrev pub at : Flash → Scheme-tables → State
+abbrev pub at : Flash → SchemeTables → State
 at f t = record { flash = f; tables = t }
 
 -- Work that leaves the tables alone: the flash after it, and how many pages were copied.
@@ -33,7 +33,7 @@ pub record Copied (w : Work) (f : Flash) (copies : ℕ) : Type 0 where
   pub copied : copies ≡ w.copies
 
 -- Any work: the state after it, and how many blocks were erased and pages copied.
-pub record Left (w : Work) (f : Flash) (t : Scheme-tables) (e n : ℕ) : Type 0 where
+pub record Left (w : Work) (f : Flash) (t : SchemeTables) (e n : ℕ) : Type 0 where
   pub state : at f t ≡ w.after
   pub erases : e ≡ w.erases
   pub copies : n ≡ w.copies

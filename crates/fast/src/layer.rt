@@ -13,7 +13,7 @@ ghost use Rattle.flash.specs.Calls.{is_blank};
 ghost use Rattle.scheme.specs.Law.{Begun, Lawful};
 ghost use Rattle.scheme.specs.Ledger.{read, write, shown};
 ghost use Rattle.scheme.specs.Runs.{sectors, format, call, worn, write_refusal};
-ghost use Rattle.scheme.specs.Tables.{Tables as Scheme-tables};
+ghost use Rattle.scheme.specs.Tables.{Tables as SchemeTables};
 ghost use Rattle.scheme.specs.Work.{seen, line, each, do_erase};
 ghost use Rattle.fast.specs.Leaves.{at};
 ghost use Rattle.fast.specs.Meaning.{view_of};
@@ -48,7 +48,7 @@ pub enum Found {
 
 // Erases every block once, in rising order.
 fn erase_all<D: Device>(device: &mut D)
-    ensures { (t : Scheme-tables) → at (D.Device.flash device.new) t ≡ (each do_erase 0 (D.Device.flash device.old).blocks (at (D.Device.flash device.old) t)).after }
+    ensures { (t : SchemeTables) → at (D.Device.flash device.new) t ≡ (each do_erase 0 (D.Device.flash device.old).blocks (at (D.Device.flash device.old) t)).after }
 {
     for b in 0..device.blocks() {
         let _ = device.erase(Block(b));

@@ -1,6 +1,6 @@
 // Whether the blocks of a device bear more erases. This is the only part of the layer that walks over all blocks.
 
-ghost use Rattle.std.specs.Prelude.{◌≡◌, ◌+◌, ◌<◌, ltb, nat_lt};
+ghost use Rattle.std.specs.Prelude.{◌≡◌, ◌+◌, ◌<◌, nat_lt};
 ghost use Rattle.scheme.specs.Functions.{some_below};
 
 use flash::device::Device;
@@ -18,7 +18,7 @@ fn near<D: Device>(device: &D, block: Block, most: u32, life: u32) -> bool
 
 // Whether some block could not: each block's count is asked once.
 pub(crate) fn worn<D: Device>(device: &D, most: u32) -> bool
-    ensures { result ≡ some_below (D.Device.flash device.now).blocks (λ b. ltb (D.Device.flash device.now).life ((D.Device.flash device.now).count b + most)) }
+    ensures { result ≡ some_below (D.Device.flash device.now).blocks (λ b. nat_lt (D.Device.flash device.now).life ((D.Device.flash device.now).count b + most)) }
 {
     let life = device.life();
     let mut found = false;

@@ -12,22 +12,22 @@ module _ (bs : List ℕ) (a : ℕ) (ys : List ℕ) (fits : a + length ys ≤ len
   unfolding patched
   length_patched = search (rules, places)
 
-  getD_out : (k : ℕ) → (a ≤ k → a + length ys ≤ k) → get_or (patched bs a ys) k 0 ≡ get_or bs k 0
+  get_or_out : (k : ℕ) → (a ≤ k → a + length ys ≤ k) → get_or (patched bs a ys) k 0 ≡ get_or bs k 0
   unfolding patched
-  getD_out k h = ⊎_elim (λ l. search (rules, places)) (λ l. let m : a + length ys ≤ k = h l in search (rules, places)) (cases_lt k a)
+  get_or_out k h = ⊎_elim (λ l. search (rules, places)) (λ l. let m : a + length ys ≤ k = h l in search (rules, places)) (cases_lt k a)
 
-  getD_in : (k : ℕ) → k < length ys → get_or (patched bs a ys) (a + k) 0 ≡ get_or ys k 0
+  get_or_in : (k : ℕ) → k < length ys → get_or (patched bs a ys) (a + k) 0 ≡ get_or ys k 0
   unfolding patched
-  getD_in k h = search (rules, places)
+  get_or_in k h = search (rules, places)
 
   word_out : (k : ℕ) → (a < k + 4 → a + length ys ≤ k) → word (patched bs a ys) k ≡ word bs k
   unfolding word
   word_out k h =
       rw (
-        getD_out k (λ m. let q = h (omega arith) in omega arith),
-        getD_out (k + 1) (λ m. let q = h (omega arith) in omega arith),
-        getD_out (k + 2) (λ m. let q = h (omega arith) in omega arith),
-        getD_out (k + 3) (λ m. let q = h (omega arith) in omega arith),
+        get_or_out k (λ m. let q = h (omega arith) in omega arith),
+        get_or_out (k + 1) (λ m. let q = h (omega arith) in omega arith),
+        get_or_out (k + 2) (λ m. let q = h (omega arith) in omega arith),
+        get_or_out (k + 3) (λ m. let q = h (omega arith) in omega arith),
       )
 
   part_out : (k n : ℕ) → k + n ≤ length bs → (a < k + n → a + length ys ≤ k) → take n (drop k (patched bs a ys)) ≡ take n (drop k bs)
@@ -46,10 +46,10 @@ word_in : (bs : List ℕ) (a n : ℕ) → a + 4 ≤ length bs → n < 2 ^ 32 →
 unfolding word
 word_in bs a n fits small =
     let e₀ : get_or (patched bs a (word_bytes n)) a 0 ≡ n % 256 =
-    ap (λ k. get_or (patched bs a (word_bytes n)) k 0) (omega arith) ∙ getD_in bs a (word_bytes n) fits 0 (omega arith) in
-    let e₁ : get_or (patched bs a (word_bytes n)) (a + 1) 0 ≡ n / 256 % 256 = getD_in bs a (word_bytes n) fits 1 (omega arith) in
-    let e₂ : get_or (patched bs a (word_bytes n)) (a + 2) 0 ≡ n / 65536 % 256 = getD_in bs a (word_bytes n) fits 2 (omega arith) in
-    let e₃ : get_or (patched bs a (word_bytes n)) (a + 3) 0 ≡ n / 16777216 % 256 = getD_in bs a (word_bytes n) fits 3 (omega arith) in
+    ap (λ k. get_or (patched bs a (word_bytes n)) k 0) (omega arith) ∙ get_or_in bs a (word_bytes n) fits 0 (omega arith) in
+    let e₁ : get_or (patched bs a (word_bytes n)) (a + 1) 0 ≡ n / 256 % 256 = get_or_in bs a (word_bytes n) fits 1 (omega arith) in
+    let e₂ : get_or (patched bs a (word_bytes n)) (a + 2) 0 ≡ n / 65536 % 256 = get_or_in bs a (word_bytes n) fits 2 (omega arith) in
+    let e₃ : get_or (patched bs a (word_bytes n)) (a + 3) 0 ≡ n / 16777216 % 256 = get_or_in bs a (word_bytes n) fits 3 (omega arith) in
     rw (e₀, e₁, e₂, e₃) (word_of n small)
 
 -- a number within bytes that are all v

@@ -111,18 +111,18 @@ module _ (bs : List ℕ) (m k : ℕ) where
       (x.start ≤ k) × (k ≤ x.start + 4) × (k ≤ length bs) × (x.start < k → (x.start + 4 ≤ k) × (word bs x.start ≡ x.count)) × Wrong bs x m s k
   unfolding section_at
   section_wrong s x h e = ⊎_elim
-      (λ cut. let m-is : m ≡ 7 = grind (arith, nat_tests) in let k-is : k ≡ x.start = grind (arith, nat_tests) in
-      (omega arith, omega arith, omega arith, λ later. absurd (omega arith), count_cut m-is k-is (omega arith)))
+      (λ cut. let m_is : m ≡ 7 = grind (arith, nat_tests) in let k_is : k ≡ x.start = grind (arith, nat_tests) in
+      (omega arith, omega arith, omega arith, λ later. absurd (omega arith), count_cut m_is k_is (omega arith)))
       (λ whole. ⊎_elim
-      (λ same. let m-is : m ≡ 7 = grind (arith, nat_tests) in let k-is : k ≡ x.start + 4 = grind (arith, nat_tests) in
+      (λ same. let m_is : m ≡ 7 = grind (arith, nat_tests) in let k_is : k ≡ x.start + 4 = grind (arith, nat_tests) in
       let cut : length bs < x.start + 4 + x.size = grind (arith, nat_tests) in
-      (omega arith, omega arith, omega arith, λ later. (omega arith, same), items_cut m-is k-is (omega arith)))
-      (λ other. let m-is : m ≡ 8 = grind (arith, nat_tests) in let k-is : k ≡ x.start = grind (arith, nat_tests) in (
+      (omega arith, omega arith, omega arith, λ later. (omega arith, same), items_cut m_is k_is (omega arith)))
+      (λ other. let m_is : m ≡ 8 = grind (arith, nat_tests) in let k_is : k ≡ x.start = grind (arith, nat_tests) in (
         omega arith,
         omega arith,
         omega arith,
         λ later. absurd (omega arith),
-        count_wrong m-is k-is (omega arith) (λ z. other (ap (word bs) (sym k-is) ∙ z)),
+        count_wrong m_is k_is (omega arith) (λ z. other (ap (word bs) (sym k_is) ∙ z)),
       ))
       (cases_eq (word bs x.start) x.count))
       (cases_lt (length bs) (x.start + 4))
@@ -149,7 +149,7 @@ module _ (bs : List ℕ) (byte : Bytes bs) (b p l : ℕ)
     (w₀ : word bs 0 ≡ 3) (w₁ : word bs 4 ≡ b) (w₂ : word bs 8 ≡ p) (w₃ : word bs 12 ≡ l) (m s k : ℕ) where
   module _ (w₄ : word bs 16 ≡ b) (w₅ : word bs (20 + 4 * b) ≡ b * p) (w₆ : word bs (24 + 4 * b + 4 * (b * p)) ≡ b * p) where
     end_faulty : word bs (28 + 4 * b + 8 * (b * p)) ≡ b * p → (j : ℕ) → j ≡ image_length b p → checked_end bs b p l j ≡ faulty m s k → FaultAt bs m s k
-    end_faulty w₇ j j-is h = ⊎_elim
+    end_faulty w₇ j j_is h = ⊎_elim
         (λ stop. let w = within_fault 5 (end_at bs j) m s k stop in
         let t = end_wrong bs m k j w.1 in
         fault_at bs byte b p l b_low b_high p_low p_high l_low l_high k (omega arith) (omega arith)
@@ -210,7 +210,7 @@ module _ (bs : List ℕ) (byte : Bytes bs) (m s k : ℕ) where
   module _ (inside : 16 ≤ length bs) (w₀ : word bs 0 ≡ 3) where
     life_faulty : 1 ≤ word bs 4 → word bs 4 ≤ 4096 → 1 ≤ word bs 8 → word bs 8 ≤ 64 → shape_life bs (word bs 4) (word bs 8) ≡ faulty m s k → FaultAt bs m s k
     life_faulty b_low b_high p_low p_high h = ⊎_elim
-        (λ stop. let k-is = stop.2 in fault_at bs byte (word bs 4) (word bs 8) 1 b_low b_high p_low p_high (omega arith) (omega arith) k (omega arith) (omega arith)
+        (λ stop. let k_is = stop.2 in fault_at bs byte (word bs 4) (word bs 8) 1 b_low b_high p_low p_high (omega arith) (omega arith) k (omega arith) (omega arith)
         (λ _. (omega arith, w₀)) (λ _. (omega arith, refl)) (λ _. (omega arith, refl)) (λ q. absurd (omega arith)) (λ q. absurd (omega arith))
         (λ q. absurd (omega arith)) (λ q. absurd (omega arith)) (λ q. absurd (omega arith)) m s
         (out_of_range stop.0 stop.1 (omega arith) (rw stop.2 stop.3)))
@@ -219,7 +219,7 @@ module _ (bs : List ℕ) (byte : Bytes bs) (m s k : ℕ) where
 
     pages_faulty : 1 ≤ word bs 4 → word bs 4 ≤ 4096 → shape_pages bs (word bs 4) ≡ faulty m s k → FaultAt bs m s k
     pages_faulty b_low b_high h = ⊎_elim
-        (λ stop. let k-is = stop.2 in fault_at bs byte (word bs 4) 1 1 b_low b_high (omega arith) (omega arith) (omega arith) (omega arith) k (omega arith) (omega arith)
+        (λ stop. let k_is = stop.2 in fault_at bs byte (word bs 4) 1 1 b_low b_high (omega arith) (omega arith) (omega arith) (omega arith) k (omega arith) (omega arith)
         (λ _. (omega arith, w₀)) (λ _. (omega arith, refl)) (λ q. absurd (omega arith)) (λ q. absurd (omega arith)) (λ q. absurd (omega arith))
         (λ q. absurd (omega arith)) (λ q. absurd (omega arith)) (λ q. absurd (omega arith)) m s
         (out_of_range stop.0 stop.1 (omega arith) (rw stop.2 stop.3)))
@@ -228,7 +228,7 @@ module _ (bs : List ℕ) (byte : Bytes bs) (m s k : ℕ) where
 
     blocks_faulty : shape_blocks bs ≡ faulty m s k → FaultAt bs m s k
     blocks_faulty h = ⊎_elim
-        (λ stop. let k-is = stop.2 in fault_at bs byte 1 1 1 (omega arith) (omega arith) (omega arith) (omega arith) (omega arith) (omega arith) k (omega arith) (omega arith)
+        (λ stop. let k_is = stop.2 in fault_at bs byte 1 1 1 (omega arith) (omega arith) (omega arith) (omega arith) (omega arith) (omega arith) k (omega arith) (omega arith)
         (λ _. (omega arith, w₀)) (λ q. absurd (omega arith)) (λ q. absurd (omega arith)) (λ q. absurd (omega arith)) (λ q. absurd (omega arith))
         (λ q. absurd (omega arith)) (λ q. absurd (omega arith)) (λ q. absurd (omega arith)) m s
         (out_of_range stop.0 stop.1 (omega arith) (rw stop.2 stop.3)))

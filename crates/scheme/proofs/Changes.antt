@@ -54,15 +54,15 @@ role_is P L R B ρ t ok b h = go (ρ b) refl
         rw (no_free P L R B ρ t ok b (λ z. omega arith), no_logs P L R B ρ t ok b (λ z. omega arith), no_sequential P L R B ρ t ok b (λ z. omega arith) t.sequential refl) refl
     go sequential e =
         let k : kind (ρ b) ≡ 2 = ap kind e in
-        let no-f = no_free P L R B ρ t ok b (λ z. omega arith) in
-        let no-l = no_logs P L R B ρ t ok b (λ z. omega arith) in
-        let one : times_sequential b t.sequential ≡ 1 = omega (arith, total, no_data P L R B ρ t ok b (λ z. omega arith), no-l, no-f) in
-        rw (no-f, no-l, one) refl
+        let no_f = no_free P L R B ρ t ok b (λ z. omega arith) in
+        let no_l = no_logs P L R B ρ t ok b (λ z. omega arith) in
+        let one : times_sequential b t.sequential ≡ 1 = omega (arith, total, no_data P L R B ρ t ok b (λ z. omega arith), no_l, no_f) in
+        rw (no_f, no_l, one) refl
     go random e =
         let k : kind (ρ b) ≡ 3 = ap kind e in
-        let no-f = no_free P L R B ρ t ok b (λ z. omega arith) in
-        let one : times b t.logs ≡ 1 = omega (arith, total, no_data P L R B ρ t ok b (λ z. omega arith), no-f, no_sequential P L R B ρ t ok b (λ z. omega arith) t.sequential refl) in
-        rw (no-f, one) refl
+        let no_f = no_free P L R B ρ t ok b (λ z. omega arith) in
+        let one : times b t.logs ≡ 1 = omega (arith, total, no_data P L R B ρ t ok b (λ z. omega arith), no_f, no_sequential P L R B ρ t ok b (λ z. omega arith) t.sequential refl) in
+        rw (no_f, one) refl
     go outside e =
         let k : kind (ρ b) ≡ 4 = ap kind e in
         rw (no_free P L R B ρ t ok b (λ z. omega arith), no_logs P L R B ρ t ok b (λ z. omega arith), no_sequential P L R B ρ t ok b (λ z. omega arith) t.sequential refl) refl

@@ -63,7 +63,7 @@ module _ (P L R B : ℕ) (ρ : ℕ → Use) (l m : ℕ → Option (List ℕ)) (s
     (fill : ℕ → Page)
     (new : (o : ℕ) → o < P → line (fill o) ≡ m (c * P + o))
     (same : (n : ℕ) → n / P ≢ c → m n ≡ l n)
-    (rest-blank : AllByRecursion (λ b. (p : ℕ) → s.flash.page b p ≡ blank) rest) where
+    (rest_blank : AllByRecursion (λ b. (p : ℕ) → s.flash.page b p ≡ blank) rest) where
   abbrev pub merge_end : State
   merge_end =
       record {
@@ -163,7 +163,7 @@ module _ (P L R B : ℕ) (ρ : ℕ → Use) (l m : ℕ → Option (List ℕ)) (s
         log_tail = λ q p h i j.
             ap (λ (r : ℕ → Page). r p) (role_row (get_or s.tables.logs q 0) random (All-get_or (λ b. new_role b ≡ random) s.tables.logs q 0 h roles.log_role) (unlike random (data_of c) (λ z. omega arith)) (unlike random free (λ z. omega arith)))
             ∙ held.log_tail q p h i (rw length-map at j);
-        free_blank = All-append (λ b. (p : ℕ) → merge_end.flash.page b p ≡ blank) rest dead (blank_rest rest rest-blank mg.rest_away) (wiped_blank (with_pages s.flash (upd s.flash.page to fill)) dead);
+        free_blank = All-append (λ b. (p : ℕ) → merge_end.flash.page b p ≡ blank) rest dead (blank_rest rest rest_blank mg.rest_away) (wiped_blank (with_pages s.flash (upd s.flash.page to fill)) dead);
       }
     where
       other_data : (d : ℕ) → d < L → d ≢ c → merge_end.flash.page (s.tables.data_block d) ≡ s.flash.page (s.tables.data_block d)

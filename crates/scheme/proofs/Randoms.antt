@@ -50,7 +50,7 @@ module _ (P L R B : ℕ) (l : ℕ → Option (List ℕ)) (s : State) (pos : 0 < 
 
   -- the next page of the last block
   module _ (b o : ℕ) (x : Page) (y : List ℕ) (known : b < L) (fits : o < P) (text : line x ≡ Some y) (written : is_some (l (b * P + o)) ≡ true)
-      (not-seq : sequential_place t.sequential b o ≡ None) (has_room : length t.entries < P * length t.logs) where
+      (not_seq : sequential_place t.sequential b o ≡ None) (has_room : length t.entries < P * length t.logs) where
     abbrev n : ℕ
     n = b * P + o
 
@@ -131,7 +131,7 @@ module _ (P L R B : ℕ) (l : ℕ → Option (List ℕ)) (s : State) (pos : 0 < 
 
     noted_here : place P noted b o ≡ record { block = f; page = p }
     unfolding place
-    noted_here = rw (place, not-seq, entry_here) refl
+    noted_here = rw (place, not_seq, entry_here) refl
 
     noted_there : (d q : ℕ) → d * P + q ≢ n → place P noted d q ≡ place P t d q
     unfolding place
@@ -252,7 +252,7 @@ module _ (P L R B : ℕ) (l : ℕ → Option (List ℕ)) (s : State) (pos : 0 < 
         (led_one ρ f spec.taken_as_random random [] (ap (λ u. spec.after (role_told u) spec.taken_as_random) fr.0)))
 
   -- the oldest block given up
-  module _ (v : ℕ) (rest : List ℕ) (first : t.logs ≡ v ∷ rest) (all-stale : (j : ℕ) → j < P → get_or t.entries j stale ≡ stale) (long : P ≤ length t.entries) where
+  module _ (v : ℕ) (rest : List ℕ) (first : t.logs ≡ v ∷ rest) (all_stale : (j : ℕ) → j < P → get_or t.entries j stale ≡ stale) (long : P ≤ length t.entries) where
     abbrev pub shortened : Tables
     shortened =
         record {
@@ -277,7 +277,7 @@ module _ (P L R B : ℕ) (l : ℕ → Option (List ℕ)) (s : State) (pos : 0 < 
     kept₂ b q e n = upd_other ρ v free b (other_kind ρ v b random q vr.0 e n) ∙ e
 
     shifted : (n : ℕ) → entry_of n 0 t.entries ≡ later P (entry_of n 0 (drop P t.entries))
-    shifted n = entry_drop n 0 P t.entries long all-stale ∙ entry_shift n 0 P (drop P t.entries)
+    shifted n = entry_drop n 0 P t.entries long all_stale ∙ entry_shift n 0 P (drop P t.entries)
 
     before : (n i : ℕ) → entry_of n 0 (drop P t.entries) ≡ Some i → entry_of n 0 t.entries ≡ Some (i + P)
     before n i e = shifted n ∙ ap (later P) e

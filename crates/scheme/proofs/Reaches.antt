@@ -5,7 +5,7 @@ use Rattle.flash.specs.Meaning.{Flash}
 use Rattle.scheme.specs.Functions.{upd, some_below}
 use Rattle.scheme.specs.Ledger.{Call, read, write, Ledger, empty, entered}
 use Rattle.scheme.specs.Runs.{Start, Layer, sectors, call, write_refusal, replaces, worn, content, most_erases, last_layer, reached, format, fit, nothing}
-use Rattle.scheme.specs.Steps.{write as write-steps}
+use Rattle.scheme.specs.Steps.{write as write_steps}
 use Rattle.scheme.specs.Work.{State}
 use Rattle.scheme.proofs.Runs.{Running, Accepts, accepts, has_line, replaces_line, no_sector, fits, begins, by_fit}
 
@@ -31,7 +31,7 @@ unfolding call
 after_refused y n bytes m e = rw (e, call) refl
 
 pub after_accepted : (y : Layer) (n : ℕ) (bytes : List ℕ) → write_refusal y n bytes ≡ None
-    → (call y (write n bytes)).after ≡ moved y (write-steps y.pages y.random n bytes y.state).after
+    → (call y (write n bytes)).after ≡ moved y (write_steps y.pages y.random n bytes y.state).after
 unfolding call
 after_accepted y n bytes e = rw (e, call) refl
 
@@ -53,12 +53,12 @@ module _ (y : Layer) (m : Midway y) where
   leads_on = accepts y.pages y.logical y.random m.blocks m.pos m.some_logical m.some_random m.wide m.small y.state m.ledger m.erases m.running
 
 -- every call leads on
-abbrev accepted_on : (y : Layer) → Midway y → (n : ℕ) (bytes : List ℕ) → write_refusal y n bytes ≡ None → Midway (moved y (write-steps y.pages y.random n bytes y.state).after)
+abbrev accepted_on : (y : Layer) → Midway y → (n : ℕ) (bytes : List ℕ) → write_refusal y n bytes ≡ None → Midway (moved y (write_steps y.pages y.random n bytes y.state).after)
 accepted_on y m n bytes e =
     record {
       blocks = m.blocks;
       ledger = entered m.ledger n bytes;
-      erases = m.erases + (write-steps y.pages y.random n bytes y.state).erases;
+      erases = m.erases + (write_steps y.pages y.random n bytes y.state).erases;
       pos = m.pos;
       some_logical = m.some_logical;
       some_random = m.some_random;
@@ -143,11 +143,11 @@ wears_on y s blocks life more e =
     ∙ some_weaker y.state.flash.blocks (λ b. ltb y.state.flash.life (y.state.flash.count b + most_erases y)) (λ b. ltb s.flash.life (s.flash.count b + most_erases y))
     (λ b h. let i = ltb-true y.state.flash.life (y.state.flash.count b + most_erases y) h in lt-ltb s.flash.life (s.flash.count b + most_erases y) (omega (arith, more b))) e
 
-sets_midway : (y : Layer) → Midway y → (n : ℕ) (bytes : List ℕ) → write_refusal y n bytes ≡ None → Sets y (moved y (write-steps y.pages y.random n bytes y.state).after) n bytes
+sets_midway : (y : Layer) → Midway y → (n : ℕ) (bytes : List ℕ) → write_refusal y n bytes ≡ None → Sets y (moved y (write_steps y.pages y.random n bytes y.state).after) n bytes
 unfolding upd
 sets_midway y m n bytes e =
     let a = leads_on y m n bytes e in
-    let z = moved y (write-steps y.pages y.random n bytes y.state).after in
+    let z = moved y (write_steps y.pages y.random n bytes y.state).after in
     let after = accepted_on y m n bytes e in
     record {
       pages = refl;

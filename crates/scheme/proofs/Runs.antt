@@ -11,7 +11,7 @@ use Rattle.scheme.specs.Ledger.{Call, read, write, refused, wrote, Reply, Ledger
 use Rattle.scheme.specs.Place.{place}
 use Rattle.scheme.specs.Roles.{TablesRight, led, role_of}
 use Rattle.scheme.specs.Runs.{Start, Layer, sectors, Outcome, unchanged, call, write_refusal, replaces, worn, content, Turn, turns, last_layer, replies_of, most_erases, format, fit, geometry_fits, nothing}
-use Rattle.scheme.specs.Steps.{page_of, seen_of, formatted, write as write-steps}
+use Rattle.scheme.specs.Steps.{page_of, seen_of, formatted, write as write_steps}
 use Rattle.scheme.specs.Tables.{Tables}
 use Rattle.scheme.specs.Work.{State, line}
 use Rattle.scheme.proofs.Accepted.{writes}
@@ -150,8 +150,8 @@ module _ (P L R B : ℕ) (pos : 1 < P) (some_L : 0 < L) (some_R : 0 < R) (wide :
   replaces_line s g E r n h =
       let known : n / P < L = (div-lt_iff_lt-mul pos₀).1 h in
       let fits : n % P < P = mod-lt n pos₀ in
-      let data-in : s.tables.data_block (n / P) < s.flash.blocks = omega (arith, r.blocks, inside r.inv.roles (s.tables.data_block (n / P)) (data_of (n / P)) (r.inv.roles.data_role (n / P) known) (λ z. omega arith)) in
-      ap (λ x. is_some (line x)) (sees s.flash (s.tables.data_block (n / P)) (n % P) data-in (omega (arith, r.pages))) ∙ r.inv.held.behind (n / P) (n % P) known fits ∙ ap (λ k. is_some (g.line k)) (div-add-mod' n P)
+      let data_in : s.tables.data_block (n / P) < s.flash.blocks = omega (arith, r.blocks, inside r.inv.roles (s.tables.data_block (n / P)) (data_of (n / P)) (r.inv.roles.data_role (n / P) known) (λ z. omega arith)) in
+      ap (λ x. is_some (line x)) (sees s.flash (s.tables.data_block (n / P)) (n % P) data_in (omega (arith, r.pages))) ∙ r.inv.held.behind (n / P) (n % P) known fits ∙ ap (λ k. is_some (g.line k)) (div-add-mod' n P)
 
   -- no block is worn out by the erases of an accepted write
   spares : (s : State) (g : Ledger) (E : ℕ) → Running s g E → (n : ℕ) (bytes : List ℕ) → write_refusal (lay s) n bytes ≡ None → (e : ℕ) → e ≤ cond (is_some (g.line n)) (min P L + 1) 0
@@ -173,7 +173,7 @@ module _ (P L R B : ℕ) (pos : 1 < P) (some_L : 0 < L) (some_R : 0 < R) (wide :
       elim q [
         | Some m ↦ unchanged (lay s) (record { answer = refused m; buffer = bytes })
         | None ↦
-            let w = write-steps P R n bytes s in
+            let w = write_steps P R n bytes s in
             record { after = lay w.after; reply = record { answer = wrote w.erases w.copies; buffer = bytes }; asked = w.asked; changes = w.changes }
       ]
 
@@ -202,15 +202,15 @@ module _ (P L R B : ℕ) (pos : 1 < P) (some_L : 0 < L) (some_R : 0 < R) (wide :
 
   -- an accepted write: what it does, and that the run goes on from where it ends
   pub record Accepts (s : State) (g : Ledger) (E n : ℕ) (bytes : List ℕ) : Type 0 where
-    pub write : Wrote P L R B (cond (is_some (g.line n)) (min P L + 1) 0) (upd g.line n (Some bytes)) s (write-steps P R n bytes s) ((P + 1) * cond (is_some (g.line n)) 1 0)
-    pub done : Done P L B s (write-steps P R n bytes s) write.end write.e
-    pub running : Running (write-steps P R n bytes s).after (entered g n bytes) (E + (write-steps P R n bytes s).erases)
+    pub write : Wrote P L R B (cond (is_some (g.line n)) (min P L + 1) 0) (upd g.line n (Some bytes)) s (write_steps P R n bytes s) ((P + 1) * cond (is_some (g.line n)) 1 0)
+    pub done : Done P L B s (write_steps P R n bytes s) write.end write.e
+    pub running : Running (write_steps P R n bytes s).after (entered g n bytes) (E + (write_steps P R n bytes s).erases)
 
   pub accepts : (s : State) (g : Ledger) (E : ℕ) → Running s g E → (n : ℕ) (bytes : List ℕ) → write_refusal (lay s) n bytes ≡ None → Accepts s g E n bytes
   accepts s g E r n bytes e =
       let a = admitted (lay s) n bytes e in
       let w = writes P L R B pos some_L some_R wide g.line s r.inv r.blocks r.pages n a.known bytes a.whole in
-      let o = write-steps P R n bytes s in
+      let o = write_steps P R n bytes s in
       let spare = spares s g E r n bytes e w.e w.few in
       let d = w.does.when (record { blocks = r.blocks; pages = r.pages; small = small; marks = r.marks; spare = spare }) in
       record {
@@ -264,7 +264,7 @@ module _ (P L R B : ℕ) (pos : 1 < P) (some_L : 0 < L) (some_R : 0 < R) (wide :
             let a = accepts s g E r n bytes e in
             let w = a.write in
             let d = a.done in
-            let o = write-steps P R n bytes s in
+            let o = write_steps P R n bytes s in
             record {
               right = refl;
               asked = d.sound;

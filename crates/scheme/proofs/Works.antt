@@ -181,13 +181,13 @@ program_does {P} {L} {B} b p x s i j h g =
     record {
       when = λ r.
           let in_blocks : b < s.flash.blocks = omega (arith, r.blocks) in
-          let in-pages : p < s.flash.pages = omega (arith, r.pages) in
+          let in_pages : p < s.flash.pages = omega (arith, r.pages) in
           let m = g r.marks in
           record {
-            ends = ap (with_flash s) (takes s.flash b p (L * P) x in_blocks in-pages r.small h m);
+            ends = ap (with_flash s) (takes s.flash b p (L * P) x in_blocks in_pages r.small h m);
             counts = refl;
             sound = (h, tt);
-            allowed = ((in_blocks, in-pages, weaken (L * P) x r.small m, h), tt);
+            allowed = ((in_blocks, in_pages, weaken (L * P) x r.small m, h), tt);
             led = λ c k. refl;
             wears = wears_none (upd s.flash.page b (upd (s.flash.page b) p x));
             marks = λ c q l.
@@ -279,7 +279,7 @@ module _ (P : ℕ) where
   -- a copy of the offsets from k on into a block that is blank from there, and in which none of them lies
   module _ (L B : ℕ) (fresh : Option Fresh) (c to k : ℕ) (s : State) (inside : to < B) (good : FreshMarked L fresh)
       (from : (o : ℕ) → (place P s.tables c o).block < B)
-      (paged-in : (o : ℕ) → o < P → (place P s.tables c o).page < P)
+      (paged_in : (o : ℕ) → o < P → (place P s.tables c o).page < P)
       (room : (o : ℕ) → k ≤ o → s.flash.page to o ≡ blank)
       (away : (o : ℕ) → k ≤ o → o < P → (place P s.tables c o).block ≢ to) where
     abbrev pub filled_row : ℕ → ℕ → Page
@@ -299,7 +299,7 @@ module _ (P : ℕ) where
     copies_does (suc n) h =
         does_to
         (does_then (transfer P fresh c to (k + n)) (copies_does n (omega arith))
-        (transfer_does fresh c to (k + n) (filled_to n) good (from (k + n)) (paged-in (k + n) (omega arith)) inside (omega arith)
+        (transfer_does fresh c to (k + n) (filled_to n) good (from (k + n)) (paged_in (k + n) (omega arith)) inside (omega arith)
         (ap (λ (r : ℕ → Page). r (k + n)) (upd_same s.flash.page to (filled_row n)) ∙ row_after (source fresh s c) (s.flash.page to) k n (k + n) (omega arith) ∙ room (k + n) (omega arith))))
         (rw (same_source n (k + n) (omega arith) (omega arith), upd_same, upd_twice) refl)
         refl

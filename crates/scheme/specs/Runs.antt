@@ -1,10 +1,10 @@
 -- A layer from format on, and the calls on it one after the other.
-use Rattle.std.specs.Prelude.{ℕ, ◌+◌, ◌*◌, ◌/◌, ◌%◌, min, Bool, true, false, cond, ◌&&◌, ltb, leb, List, [], ◌∷◌, map, length, is_some, Some, None, Option, ◌==◌, nat_le, nat_lt}
+use Rattle.std.specs.Prelude.{ℕ, ◌+◌, ◌*◌, ◌/◌, ◌%◌, min, Bool, true, false, cond, ◌&&◌, nat_lt, nat_le, List, [], ◌∷◌, map, length, is_some, Some, None, Option, ◌==◌}
 use Rattle.flash.specs.Meaning.{Flash}
 use Rattle.scheme.specs.Functions.{some_below}
 use Rattle.scheme.specs.Ledger.{Call, read, write, refused, wrote, Reply, reads}
 use Rattle.scheme.specs.Roles.{Change}
-use Rattle.scheme.specs.Steps.{seen_of, formatted, write as write-steps}
+use Rattle.scheme.specs.Steps.{seen_of, formatted, write as write_steps}
 use Rattle.scheme.specs.Tables.{Tables}
 use Rattle.scheme.specs.Work.{State, Moment, seen, line}
 
@@ -37,7 +37,7 @@ unfoldable pub fit : Flash → ℕ → ℕ → Option ℕ
 fit f L R =
     elim (geometry_fits f L R) [
       | false ↦ Some 11
-      | true ↦ cond (some_below f.blocks (λ b. leb f.life (f.count b))) (Some 12) None
+      | true ↦ cond (some_below f.blocks (λ b. nat_le f.life (f.count b))) (Some 12) None
     ]
 
 abbrev pub no_tables : Tables
@@ -71,7 +71,7 @@ replaces y n = is_some (line (seen y.state.flash (y.state.tables.data_block (n /
 
 -- some block could be worn out by one more overwrite
 abbrev pub worn : Layer → Bool
-worn y = let f = y.state.flash in some_below f.blocks (λ b. ltb f.life (f.count b + most_erases y))
+worn y = let f = y.state.flash in some_below f.blocks (λ b. nat_lt f.life (f.count b + most_erases y))
 
 -- what a write is refused with, if it is
 unfoldable pub write_refusal : Layer → ℕ → List ℕ → Option ℕ
@@ -108,7 +108,7 @@ call y (write n bytes) =
     elim (write_refusal y n bytes) [
       | Some m ↦ unchanged y (record { answer = refused m; buffer = bytes })
       | None ↦
-          let w = write-steps y.pages y.random n bytes y.state in
+          let w = write_steps y.pages y.random n bytes y.state in
           record {
             after = record { pages = y.pages; logical = y.logical; random = y.random; state = w.after };
             reply = record { answer = wrote w.erases w.copies; buffer = bytes };

@@ -2,7 +2,7 @@
 use Rattle.std.proofs.Common.{◌≡◌, ℕ, List, [], ◌∷◌, ◌++◌, length, sym, refl, ap, ◌∙◌, subst, append_assoc, arith}
 use Rattle.std.proofs.lemmas.List.{append-nil}
 use Rattle.fast.specs.declared.replay.Call as code_call
-use Rattle.fast.specs.declared.replay.Reply as code-reply
+use Rattle.fast.specs.declared.replay.Reply as code_reply
 use Rattle.fast.specs.Replay.{call_told, calls_told, reply_told, replies_told}
 use Rattle.scheme.specs.Ledger.{Call, read, write, Answer, refused, never_written, bytes, wrote, Reply, Ledger, reads, ledger_next, Answered, AllAnswered}
 use Rattle.store.specs.Meaning.{Table}
@@ -36,18 +36,18 @@ same_answered g h e f (c ∷ cs) (r ∷ rs) a = (first c r a.0, same_answered (l
     lines (write n x) never_written = f
     lines (write n x) bytes = f
 
-told_push : (rs : List code-reply.Reply) (r : code-reply.Reply) → replies_told (rs ++ (r ∷ [])) ≡ replies_told rs ++ (reply_told r ∷ [])
+told_push : (rs : List code_reply.Reply) (r : code_reply.Reply) → replies_told (rs ++ (r ∷ [])) ≡ replies_told rs ++ (reply_told r ∷ [])
 told_push [] r = refl
 told_push (q ∷ rs) r = ap (λ qs. reply_told q ∷ qs) (told_push rs r)
 
 -- whatever the calls that are left will be answered with, all calls are then answered as the first ledger says
-pub record Playing (first : Table) (all : List code_call.Call) (t : Table) (left : List code_call.Call) (rs : List code-reply.Reply) : Type 0 where
+pub record Playing (first : Table) (all : List code_call.Call) (t : Table) (left : List code_call.Call) (rs : List code_reply.Reply) : Type 0 where
   pub goes : (rest : List Reply) → AllAnswered (ledger_of t) (calls_told left) rest → AllAnswered (ledger_of first) (calls_told all) (replies_told rs ++ rest)
 
 pub plays_first : (t : Table) (all : List code_call.Call) → Playing t all t all []
 plays_first t all = record { goes = λ rest a. a }
 
-pub plays_more : (first : Table) (all : List code_call.Call) (t u : Table) (left rest : List code_call.Call) (next : code_call.Call) (rs more : List code-reply.Reply) (r : code-reply.Reply)
+pub plays_more : (first : Table) (all : List code_call.Call) (t u : Table) (left rest : List code_call.Call) (next : code_call.Call) (rs more : List code_reply.Reply) (r : code_reply.Reply)
     → left ≡ next ∷ rest → Made t u (call_told next) (reply_told r) → more ≡ rs ++ (r ∷ []) → Playing first all t left rs → Playing first all u rest more
 plays_more first all t u left rest next rs more r e m f p = record {
   goes = λ later a.
@@ -66,7 +66,7 @@ plays_more first all t u left rest next rs more r e m f p = record {
     sizes (write n x) never_written = refl
     sizes (write n x) bytes = refl
 
-pub plays_out : (first : Table) (all : List code_call.Call) (t : Table) (left : List code_call.Call) (rs : List code-reply.Reply) → length left ≡ 0 → Playing first all t left rs →
+pub plays_out : (first : Table) (all : List code_call.Call) (t : Table) (left : List code_call.Call) (rs : List code_reply.Reply) → length left ≡ 0 → Playing first all t left rs →
     AllAnswered (ledger_of first) (calls_told all) (replies_told rs)
 plays_out first all t [] rs e p = subst (AllAnswered (ledger_of first) (calls_told all)) (append-nil (replies_told rs)) (p.goes [] tt)
 plays_out first all t (c ∷ left) rs e p = absurd (omega arith)

@@ -89,7 +89,7 @@ module _ (bs ys : List ℕ) (n : ℕ) (known : n < plain_size bs) (whole : lengt
   line_after k =
       let size = same_size in
       ⊎_elim
-      (λ same. let k-is : k ≡ n = same in let t = this_slot in rw k-is (grind (arith, nat_tests)))
+      (λ same. let k_is : k ≡ n = same in let t = this_slot in rw k_is (grind (arith, nat_tests)))
       (λ other. ⊎_elim
       (λ h. let o = other_slot k h other in grind (arith, nat_tests))
       (λ h. grind (arith, nat_tests))

@@ -20,7 +20,7 @@ unfolding upd
 line_there line line' n bytes None e k same whole f =
     let g : line' (k / 2) ≡ upd line (n / 2) (Some bytes) (k / 2) = ap (λ (h : ℕ → Option (List ℕ)). h (k / 2)) e in
     ⊎_elim
-    (λ is. let k-is : k ≡ n = is in let h : k / 2 ≡ n / 2 = ap (λ j. j / 2) k-is in g ∙ grind (arith, nat_tests))
+    (λ is. let k_is : k ≡ n = is in let h : k / 2 ≡ n / 2 = ap (λ j. j / 2) k_is in g ∙ grind (arith, nat_tests))
     (λ other. let h : k / 2 ≡ n / 2 → ⊥ = λ z. other (same_half k n same z) in g ∙ grind (arith, nat_tests))
     (cases_eq k n)
 line_there line line' n bytes (Some m) e k same whole f = ap (λ (h : ℕ → Option (List ℕ)). h (k / 2)) e ∙ sym f

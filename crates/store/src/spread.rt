@@ -2,7 +2,7 @@
 //
 // A run of sectors is thus shared evenly between the sides. A side that is larger than the other has sectors that the spread does not show.
 
-ghost use Rattle.std.specs.Prelude.{◌≡◌, ◌/◌, MatchOption};
+ghost use Rattle.std.specs.Prelude.{◌≡◌, ◌/◌};
 ghost use Rattle.store.specs.Spread.{spread_size, spread_table};
 
 use crate::store::Store;

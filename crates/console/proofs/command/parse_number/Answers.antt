@@ -33,7 +33,7 @@ returns-then-digit-lt48 c =
 
 pub returns : goal.returns
 returns c =
-    let i-is : c.loop-digit.digit-index ≡ length c.args.digits.now = omega arith in
+    let i_is : c.loop-digit.digit-index ≡ length c.args.digits.now = omega arith in
     let e = prefix_len-drop_all digit c.args.digits.now c.loop-digit.digit-index (omega arith) in
     let t = take_all c.loop-digit.digit-index c.args.digits.now (omega arith) in
     c.ok.ensures.value

@@ -7,7 +7,7 @@ use Rattle.fast.specs.Meaning.{view_of}
 use Rattle.fast.specs.Told.{meant}
 use Rattle.fast.specs.declared.tables.Tables.{Tables}
 use Rattle.fast.proofs.Barred.{no_sector, no_buffer, wears, no_life, no_stamp, no_bar}
-use Rattle.fast.proofs.Counts.{getD_numbers}
+use Rattle.fast.proofs.Counts.{get_or_numbers}
 use Rattle.fast.proofs.Measures.{in_block}
 use Rattle.fast.proofs.layer.admit.Goals as goal
 
@@ -31,7 +31,7 @@ shown : (f : Flash) (t : Tables) (n : ℕ) (b : Block) (first : Bool) → n < t.
 shown f t n b first h e found =
     let known : n / t.sizes.pages < t.sizes.logical = in_block n t.sizes.logical t.sizes.pages (omega (arith, t.sizes.pages_fit)) h in
     let i : n / t.sizes.pages < length (vec_items t.map) = omega (arith, t.map.ok.0, t.mapped) in
-    found ∙ ap (λ k. is_blank (seen f k (n % t.sizes.pages))) (getD_numbers (vec_items t.map) (n / t.sizes.pages) b i e)
+    found ∙ ap (λ k. is_blank (seen f k (n % t.sizes.pages))) (get_or_numbers (vec_items t.map) (n / t.sizes.pages) b i e)
 
 pub returns-then-wears_out : goal.returns-then-wears_out
 returns-then-wears_out g c =

@@ -3,7 +3,7 @@ use Rattle.flash.specs.Meaning.{holds}
 use Rattle.scheme.specs.Work.{put_page}
 use Rattle.fast.specs.Meaning.{view_of}
 use Rattle.fast.specs.Views.{numbers, entries_view}
-use Rattle.fast.proofs.Counts.{getD_numbers}
+use Rattle.fast.proofs.Counts.{get_or_numbers}
 use Rattle.fast.proofs.Entries.{length_views}
 use Rattle.fast.proofs.Measures.{in_block}
 use Rattle.fast.proofs.Rooms.{appended}
@@ -25,7 +25,7 @@ returns g c =
     let d : m / t.sizes.pages < vec_len t.rw.blocks = in_block m (vec_len t.rw.blocks) t.sizes.pages (omega (arith, t.sizes.pages_fit)) k in
     let h : m / t.sizes.pages < length (vec_items t.rw.blocks) = omega (arith, t.rw.blocks.ok.0) in
     let lens : m ≡ length (entries_view (vec_items t.rw.entries)) = c.len-used.ensures ∙ t.rw.entries.ok.0 ∙ sym (length_views (vec_items t.rw.entries)) in
-    let b = getD_numbers (vec_items t.rw.blocks) (m / t.sizes.pages) c.index-block.result.now h c.index-block.ensures in
+    let b = get_or_numbers (vec_items t.rw.blocks) (m / t.sizes.pages) c.index-block.result.now h c.index-block.ensures in
     record {
       work =
           appended t.sizes.pages c.args.mark.sector.0 x (flash c.args.device.now) (flash c.program.new.self) (view_of t) (view_of c.note.result)

@@ -3,7 +3,7 @@ use Rattle.flash.specs.Meaning.{holds}
 use Rattle.scheme.specs.Work.{put_page}
 use Rattle.fast.specs.Meaning.{view_of}
 use Rattle.fast.proofs.Accepted.{first_written}
-use Rattle.fast.proofs.Counts.{getD_numbers}
+use Rattle.fast.proofs.Counts.{get_or_numbers}
 use Rattle.fast.proofs.steps.writes.write_first.Goals as goal
 
 pub returns : goal.returns
@@ -13,4 +13,4 @@ returns g c =
     let x = holds c.args.mark.sector.0 c.args.mark.stamp c.args.bytes.now in
     let h : c.args.b.0 < length (vec_items t.map) = omega (arith, t.map.ok.0, t.mapped, c.requires.known) in
     first_written t.sizes.pages c.args.b.0 c.args.o.0 x (flash c.args.device.now) (flash c.program.new.self) (view_of t)
-    (c.program.ensures.after ∙ ap (λ b. put_page (flash c.args.device.now) b c.args.o.0 x) (getD_numbers (vec_items t.map) c.args.b.0 c.index.result.now h c.index.ensures))
+    (c.program.ensures.after ∙ ap (λ b. put_page (flash c.args.device.now) b c.args.o.0 x) (get_or_numbers (vec_items t.map) c.args.b.0 c.index.result.now h c.index.ensures))

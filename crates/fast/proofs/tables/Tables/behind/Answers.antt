@@ -2,7 +2,7 @@ use Rattle.std.proofs.Common.{◌+◌, ◌*◌, ◌/◌, ◌<◌, length, vec_it
 use Rattle.scheme.specs.Place.{Place, entry_of}
 use Rattle.fast.specs.Meaning.{view_of}
 use Rattle.fast.specs.Views.{entries_view}
-use Rattle.fast.proofs.Counts.{getD_numbers}
+use Rattle.fast.proofs.Counts.{get_or_numbers}
 use Rattle.fast.proofs.Measures.{in_block}
 use Rattle.fast.proofs.Places.{behind_random, behind_data}
 use Rattle.fast.proofs.tables.Tables.behind.Goals as goal
@@ -23,7 +23,7 @@ returns-in-Some c =
     let h : i / t.sizes.pages < length (vec_items t.rw.blocks) = omega (arith, t.rw.blocks.ok.0) in
     let e = behind_random t.sizes.pages (view_of t) c.args.c.0 c.args.o.0 i (c.in-Some.ensures.entry ∙ ap (λ es. entry_of n 0 (entries_view es)) c.deref.ensures.value) in
     record {
-      block = getD_numbers (vec_items t.rw.blocks) (i / t.sizes.pages) c.index.result.now h c.index.ensures ∙ ap (λ (a : Place). a.block) e;
+      block = get_or_numbers (vec_items t.rw.blocks) (i / t.sizes.pages) c.index.result.now h c.index.ensures ∙ ap (λ (a : Place). a.block) e;
       page = ap (λ (a : Place). a.page) e;
     }
 
@@ -34,6 +34,6 @@ returns-in-None c =
     let h : c.args.c.0 < length (vec_items t.map) = omega (arith, t.map.ok.0, t.mapped, c.requires.known) in
     let e = behind_data t.sizes.pages (view_of t) c.args.c.0 c.args.o.0 (c.in-None.ensures.entry ∙ ap (λ es. entry_of n 0 (entries_view es)) c.deref.ensures.value) in
     record {
-      block = getD_numbers (vec_items t.map) c.args.c.0 c.index-in-None.result.now h c.index-in-None.ensures ∙ ap (λ (a : Place). a.block) e;
+      block = get_or_numbers (vec_items t.map) c.args.c.0 c.index-in-None.result.now h c.index-in-None.ensures ∙ ap (λ (a : Place). a.block) e;
       page = ap (λ (a : Place). a.page) e;
     }

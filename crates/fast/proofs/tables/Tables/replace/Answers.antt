@@ -1,7 +1,7 @@
 use Rattle.std.proofs.Common.{◌≡◌, ◌/◌, ◌<◌, eqb, [], ◌∷◌, ◌++◌, length, vec_items, vec_len, ap, ◌∙◌, arith, rules}
 use Rattle.fast.specs.Rules.{live_entries, busy, owner_of}
 use Rattle.fast.specs.Views.{entries_view}
-use Rattle.fast.proofs.Counts.{getD_numbers, live_stale, replaced_roles, replaced_led, replaced_view}
+use Rattle.fast.proofs.Counts.{get_or_numbers, live_stale, replaced_roles, replaced_led, replaced_view}
 use Rattle.fast.proofs.tables.Tables.replace.Goals as goal
 
 pub invariant_of-result : goal.invariant_of-result
@@ -13,18 +13,18 @@ invariant_of-result c =
     let h : k.owner.0 < length (vec_items t.map) = omega (arith, t.map.ok.0, t.mapped) in
     let gone : busy t.sw ≡ 1 = ap busy c.requires.has in
     let logs = ap vec_items c.expire_block.ensures.blocks in
-    let same-logs = ap vec_len c.expire_block.ensures.blocks in
-    let is-old = getD_numbers (vec_items t.map) k.owner.0 old h c.index-old.ensures in
+    let same_logs = ap vec_len c.expire_block.ensures.blocks in
+    let is_old = get_or_numbers (vec_items t.map) k.owner.0 old h c.index-old.ensures in
     let some : 0 < length (vec_items t.free.blocks) = omega (arith, t.free.blocks.ok.0, c.requires.some) in
     let free = c.put-2.ensures.items ∙ ap (λ xs. xs ++ (k.block ∷ [])) (c.put.ensures.items ∙ ap (λ xs. xs ++ (old ∷ [])) c.take-new.ensures.items) in
     record {
-      one_role = replaced_roles (vec_items t.map) (vec_items t.rw.blocks) (vec_items t.free.blocks) _ _ t.sw k c.requires.has c.take-new.result old h some c.take-new.ensures.block is-old logs free t.sizes.blocks t.one_role;
+      one_role = replaced_roles (vec_items t.map) (vec_items t.rw.blocks) (vec_items t.free.blocks) _ _ t.sw k c.requires.has c.take-new.result old h some c.take-new.ensures.block is_old logs free t.sizes.blocks t.one_role;
       one_live = (λ n. omega (arith, ap (live_entries n) c.expire_block.ensures.entries, live_stale (λ n. eqb (n / t.sizes.pages) k.owner.0) n (entries_view (vec_items t.rw.entries)), t.one_live n));
       owned = omega (arith, t.sizes.logical_fits);
       filled = (omega arith, omega arith);
       mapped = t.mapped;
-      all_blocks = omega (arith, same-logs, gone, c.put.ensures.len, c.put-2.ensures.len, c.take-new.ensures.len, t.all_blocks);
-      few_logs = omega (arith, same-logs, t.few_logs);
+      all_blocks = omega (arith, same_logs, gone, c.put.ensures.len, c.put-2.ensures.len, c.take-new.ensures.len, t.all_blocks);
+      few_logs = omega (arith, same_logs, t.few_logs);
       entries_fit = search rules;
       logs_full = search rules;
       room_logs = search rules;
@@ -41,14 +41,14 @@ returns c =
     let h : k.owner.0 < length (vec_items t.map) = omega (arith, t.map.ok.0, t.mapped) in
     let gone : busy t.sw ≡ 1 = ap busy c.requires.has in
     let logs = ap vec_items c.expire_block.ensures.blocks in
-    let same-logs = ap vec_len c.expire_block.ensures.blocks in
-    let is-old = getD_numbers (vec_items t.map) k.owner.0 old h c.index-old.ensures in
+    let same_logs = ap vec_len c.expire_block.ensures.blocks in
+    let is_old = get_or_numbers (vec_items t.map) k.owner.0 old h c.index-old.ensures in
     let some : 0 < length (vec_items t.free.blocks) = omega (arith, t.free.blocks.ok.0, c.requires.some) in
     let free = c.put-2.ensures.items ∙ ap (λ xs. xs ++ (k.block ∷ [])) (c.put.ensures.items ∙ ap (λ xs. xs ++ (old ∷ [])) c.take-new.ensures.items) in
     record {
-      tables = replaced_view (vec_items t.map) (vec_items t.rw.blocks) (vec_items t.free.blocks) _ _ t.sw k c.requires.has c.take-new.result old h some c.take-new.ensures.block is-old logs free t.sizes.pages (vec_items t.rw.entries) _ t.next c.expire_block.ensures.entries;
-      old = is-old;
-      roles = replaced_led (vec_items t.map) (vec_items t.rw.blocks) (vec_items t.free.blocks) _ _ t.sw k c.requires.has c.take-new.result old h some c.take-new.ensures.block is-old logs free t.sizes.blocks t.one_role (vec_items t.rw.entries) (vec_items c.expire_block.new.self.entries) t.next t.next;
+      tables = replaced_view (vec_items t.map) (vec_items t.rw.blocks) (vec_items t.free.blocks) _ _ t.sw k c.requires.has c.take-new.result old h some c.take-new.ensures.block is_old logs free t.sizes.pages (vec_items t.rw.entries) _ t.next c.expire_block.ensures.entries;
+      old = is_old;
+      roles = replaced_led (vec_items t.map) (vec_items t.rw.blocks) (vec_items t.free.blocks) _ _ t.sw k c.requires.has c.take-new.result old h some c.take-new.ensures.block is_old logs free t.sizes.blocks t.one_role (vec_items t.rw.entries) (vec_items c.expire_block.new.self.entries) t.next t.next;
       sized = search rules;
-      logged = (same-logs, c.expire_block.ensures.len);
+      logged = (same_logs, c.expire_block.ensures.len);
     }

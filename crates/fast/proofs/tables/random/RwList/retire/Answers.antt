@@ -1,5 +1,5 @@
 use Rattle.std.proofs.Common.{◌≡◌, ◌-◌, ◌<◌, length, take, vec_items, ap, ◌∙◌, arith}
-use Rattle.fast.proofs.Counts.{getD_numbers}
+use Rattle.fast.proofs.Counts.{get_or_numbers}
 use Rattle.fast.proofs.Entries.{rotated}
 use Rattle.fast.proofs.tables.random.RwList.retire.Goals as goal
 
@@ -9,7 +9,7 @@ returns c =
     let some : 0 < length (vec_items s.blocks) = omega (arith, c.requires.some, s.blocks.ok.0) in
     let left : c.len.result - c.args.pages ≡ length (vec_items s.entries) - c.args.pages = omega (arith, c.len.ensures, s.entries.ok.0) in
     record {
-      block = getD_numbers (vec_items s.blocks) 0 c.remove.result some c.remove.ensures.value;
+      block = get_or_numbers (vec_items s.blocks) 0 c.remove.result some c.remove.ensures.value;
       blocks = c.remove.ensures.by_index.2;
       blocks_len = c.remove.ensures.len;
       blocks_room = c.remove.ensures.capacity;
