@@ -1,36 +1,18 @@
 -- A blank image is accepted and means a blank device, and the writer's answer is the check's.
-use Rattle.std.proofs.Common.{◌≡◌, ℕ, ◌+◌, ◌*◌, ◌^◌, ◌<◌, ◌≤◌, List, length, replicate, refl, ap, ◌∙◌, subst, ⊎_elim, arith}
+use Rattle.std.proofs.Common.{◌≡◌, ℕ, ◌+◌, ◌*◌, ◌^◌, ◌<◌, ◌≤◌, List, length, replicate, sym, refl, ap, ◌∙◌, subst, ⊎_elim, arith}
 use lib.ListN.{length-replicate}
 use Rattle.std.proofs.lemmas.Nat.{mul-add-lt, mul-le}
 use Rattle.std.proofs.lemmas.Bool.{cases_lt}
 use Rattle.std.proofs.lemmas.Bool.Decides.{nat_tests}
-use Rattle.flash.specs.BlankImage.{
-  blank_patches,
-  blank_image,
-  blank_flash,
-  room_at,
-  value_at,
-  rest_at,
-  room_end,
-  room_contents,
-  room_stamps,
-  room_sectors,
-  room_counts,
-  room_life,
-  room_pages,
-  room_blocks,
-  room_checked,
-  States,
-  Verdict,
-}
+use Rattle.flash.specs.BlankImage.{blank_patches, blank_image, blank_flash, planned, room_checked, States, Verdict}
 use Rattle.flash.specs.Meaning.{blank}
 use Rattle.flash.specs.Patched.{all_patched}
 use Rattle.flash.specs.Stored.{page_at, image_in, geometry_by, image_flash, Fits}
 use Rattle.flash.proofs.Patches.{Within, Rising, Has, length_all, word_apart, word_among, run_among, word_all}
 use Rattle.flash.proofs.Same.{same_flash}
-use Rattle.image.proofs.Checks.{Accepted, complete}
+use Rattle.image.proofs.Checks.{Accepted, section_found, ranged_found, sound_in, complete}
 use Rattle.image.specs.declared.shape.Geometry.{Geometry}
-use Rattle.image.specs.Format.{word, word_bytes, image_length, count_place, sector_place, Found, found, fault, Placed, placed, misplaced, within, and_then, with_shape, ranged_at, section_at, end_at, shape_at, shape_blocks, shape_pages, shape_life, checked_counts, checked_sectors, checked_stamps, checked_contents, checked_end, Checked, accepted, checked}
+use Rattle.image.specs.Format.{word, word_bytes, image_length, count_place, sector_place, Found, found, fault, Words, in_bytes, Placed, placed, misplaced, within, and_then, with_shape, ranged_at, section_at, end_at, shape_at, shape_blocks, shape_pages, shape_life, checked_counts, checked_sectors, checked_stamps, checked_contents, checked_end, Checked, accepted, checked_in, checked}
 
 module _ (g : Geometry) (f : Fits (image_length g.blocks g.pages) g) where
   abbrev numbers : List (ℕ × List ℕ)
@@ -63,7 +45,7 @@ module _ (g : Geometry) (f : Fits (image_length g.blocks g.pages) g) where
   number : (i a n : ℕ) → Has numbers i (a, word_bytes n) → n < 2 ^ 32 → word (all_patched ones numbers) a ≡ n
   number i a n e small = word_among ones numbers i 0 a n numbers_within numbers_rising e small
 
-  blank_accepted : Accepted (all_patched ones numbers) g.blocks g.pages g.life
+  blank_accepted : Accepted (in_bytes (all_patched ones numbers)) g.blocks g.pages g.life
   blank_accepted = record {
     first = number 0 0 3 refl (omega arith);
     blocks = number 1 4 g.blocks refl (omega arith);
@@ -114,20 +96,6 @@ module _ (g : Geometry) (f : Fits (image_length g.blocks g.pages) g) where
       let k = complete (all_patched ones numbers) g.blocks g.pages g.life blank_accepted in
       (k, ap (λ x. image_in (all_patched ones numbers) (geometry_by x)) k ∙ blank_means)
 
--- The check of bytes that state a geometry is a matter of their length.
-module _ (bs : List ℕ) where
-  section_room : (k n m : ℕ) → (k + 4 ≤ length bs → word bs k ≡ n) → section_at bs k n m ≡ room_at (length bs) k m
-  unfolding section_at room_at
-  section_room k n m h = ⊎_elim (λ (e : length bs < k + 4). grind (arith, nat_tests)) (λ (e : k + 4 ≤ length bs). let w = h e in grind (arith, nat_tests)) (cases_lt (length bs) (k + 4))
-
-  ranged_value : (k v most : ℕ) → k + 4 ≤ length bs → word bs k ≡ v → ranged_at bs k most ≡ value_at k v most
-  unfolding ranged_at value_at
-  ranged_value k v most h e = grind (arith, nat_tests)
-
-  end_rest : (k : ℕ) → end_at bs k ≡ rest_at (length bs) k
-  unfolding end_at rest_at
-  end_rest k = refl
-
 shape_then : (x : Placed) (next : ℕ → Checked) (rest : ℕ → ℕ → ℕ → Checked) → with_shape (and_then x next) rest ≡ and_then x (λ n. with_shape (next n) rest)
 shape_then (placed n) next rest = refl
 shape_then (misplaced m s k) next rest = refl
@@ -137,56 +105,102 @@ alike : (s : ℕ) (x y : Found) (f g : ℕ → Checked) → x ≡ y → ((n : �
 alike s x (found n) f g e h = let z = h n refl in rw e z
 alike s x (fault m k) f g e h = rw e
 
-room_found : (n k m e : ℕ) → room_at n k m ≡ found e → (e ≡ k + 4 + m) × (e ≤ n)
-unfolding room_at
-room_found n k m e h = (grind (arith, nat_tests), grind (arith, nat_tests))
+-- The check says the same of two sources of one size whose numbers are the same wherever it reads them.
+module _ (x y : Words) (size : x.size ≡ y.size) where
+  -- the same number at byte k, if there is one
+  abbrev Agree : ℕ → Type 0
+  Agree k = k + 4 ≤ y.size → x.word k ≡ y.word k
 
-value_found : (k v most n : ℕ) → value_at k v most ≡ found n → n ≡ v
-unfolding value_at
-value_found k v most n h = grind (arith, nat_tests)
+  section_same : (k n m : ℕ) → Agree k → section_at x k n m ≡ section_at y k n m
+  unfolding section_at
+  section_same k n m h = ⊎_elim (λ (e : y.size < k + 4). grind (arith, nat_tests)) (λ (e : k + 4 ≤ y.size). let w = h e in grind (arith, nat_tests)) (cases_lt y.size (k + 4))
+
+  ranged_same : (k most : ℕ) → Agree k → ranged_at x k most ≡ ranged_at y k most
+  unfolding ranged_at
+  ranged_same k most h = ⊎_elim (λ (e : y.size < k + 4). grind (arith, nat_tests)) (λ (e : k + 4 ≤ y.size). let w = h e in grind (arith, nat_tests)) (cases_lt y.size (k + 4))
+
+  end_same : (k : ℕ) → end_at x k ≡ end_at y k
+  unfolding end_at
+  end_same k = rw size
+
+  -- a section that begins at byte k, and ends at byte e
+  section_alike : (i k n m e : ℕ) (f g : ℕ → Checked) → k + 4 + m ≡ e → Agree k → f e ≡ g e →
+      and_then (within i (section_at x k n m)) f ≡ and_then (within i (section_at y k n m)) g
+  section_alike i k n m e f g to h z =
+      alike i (section_at x k n m) (section_at y k n m) f g (section_same k n m h)
+      (λ j q. let r : j ≡ e = (section_found y k n m j q).1 ∙ to in rw r z)
+
+  -- a number that is v, from 1 to most
+  ranged_alike : (k v most : ℕ) (f g : ℕ → Checked) → Agree k → y.word k ≡ v → (1 ≤ v → v ≤ most → f v ≡ g v) →
+      and_then (within 1 (ranged_at x k most)) f ≡ and_then (within 1 (ranged_at y k most)) g
+  ranged_alike k v most f g h w z =
+      alike 1 (ranged_at x k most) (ranged_at y k most) f g (ranged_same k most h)
+      (λ j q. let r = ranged_found y k most j q in let e : j ≡ v = sym r.0 ∙ w in let u = z (omega arith) (omega arith) in rw e u)
 
 module _ (bs : List ℕ) (b p l : ℕ) (s : States bs b p l) where
   abbrev N : ℕ
   N = length bs
 
-  -- a section that begins at byte k, and ends at byte e
-  section_alike : (i k n m e : ℕ) (f g : ℕ → Checked) → k + 4 + m ≡ e → (k + 4 ≤ N → word bs k ≡ n) → f e ≡ g e →
-      and_then (within i (section_at bs k n m)) f ≡ and_then (within i (room_at N k m)) g
-  section_alike i k n m e f g to h z =
-      alike i (section_at bs k n m) (room_at N k m) f g (section_room bs k n m h)
-      (λ j q. let r : j ≡ e = (room_found N k m j q).0 ∙ to in rw r z)
+  abbrev here : Words
+  here = in_bytes bs
 
-  value_alike : (k v most : ℕ) (f : ℕ → Checked) (c : Checked) → k + 4 ≤ N → word bs k ≡ v → f v ≡ c →
-      and_then (within 1 (ranged_at bs k most)) f ≡ and_then (within 1 (value_at k v most)) (λ _. c)
-  value_alike k v most f c h w z =
-      alike 1 (ranged_at bs k most) (value_at k v most) f (λ _. c) (ranged_value bs k v most h w) (λ j q. let r = value_found k v most j q in rw r z)
+  abbrev there : Words
+  there = planned N b p l
 
-  rest_alike : checked_counts bs b p l ≡ room_counts N b p l
-  rest_alike =
-      section_alike 2 16 b (4 * b) (20 + 4 * b) (checked_sectors bs b p l) (room_sectors N b p l) (omega arith) s.counts
-      (section_alike 3 (20 + 4 * b) (b * p) (4 * (b * p)) (24 + 4 * b + 4 * (b * p)) (checked_stamps bs b p l) (room_stamps N b p l) (omega arith) (λ h. s.sectors (omega arith))
-      (section_alike 4 (24 + 4 * b + 4 * (b * p)) (b * p) (4 * (b * p)) (28 + 4 * b + 8 * (b * p)) (checked_contents bs b p l) (room_contents N b p l) (omega arith) (λ h. s.stamps (omega arith))
-      (section_alike 5 (28 + 4 * b + 8 * (b * p)) (b * p) (512 * (b * p)) (image_length b p) (checked_end bs b p l) (room_end N b p l) (omega arith) (λ h. s.contents (omega arith))
-      (ap (λ x. and_then (within 5 x) (λ _. accepted b p l)) (end_rest bs (image_length b p))))))
+  -- the counts of the last three sections
+  all_pages : (k : ℕ) → 16 < k → b ≤ 4096 → p ≤ 64 → there.word k ≡ b * p
+  all_pages k h u v = let few = mul-le b p 4096 64 u v in grind (arith, nat_tests)
 
-  shape_alike : 16 ≤ N → with_shape (shape_blocks bs) (checked_counts bs) ≡ room_blocks N b p l
-  shape_alike h =
-      shape_then (within 1 (ranged_at bs 4 4096)) (λ x. shape_pages bs x) (checked_counts bs)
-      ∙ value_alike 4 b 4096 (λ x. with_shape (shape_pages bs x) (checked_counts bs)) (room_pages N b p l) (omega arith) (s.blocks (omega arith))
-      (shape_then (within 1 (ranged_at bs 8 64)) (λ x. shape_life bs b x) (checked_counts bs)
-      ∙ value_alike 8 p 64 (λ x. with_shape (shape_life bs b x) (checked_counts bs)) (room_life N b p l) (omega arith) (s.pages (omega arith))
-      (shape_then (within 1 (ranged_at bs 12 100000)) (λ x. accepted b p x) (checked_counts bs)
-      ∙ value_alike 12 l 100000 (checked_counts bs b p) (room_counts N b p l) (omega arith) (s.life (omega arith)) rest_alike))
+  rest_alike : b ≤ 4096 → p ≤ 64 → checked_counts here b p l ≡ checked_counts there b p l
+  rest_alike u v =
+      section_alike here there refl 2 16 b (4 * b) (20 + 4 * b) (checked_sectors here b p l) (checked_sectors there b p l) (omega arith) s.counts
+      (section_alike here there refl 3 (20 + 4 * b) (b * p) (4 * (b * p)) (24 + 4 * b + 4 * (b * p)) (checked_stamps here b p l) (checked_stamps there b p l) (omega arith)
+      (λ h. s.sectors (omega arith) ∙ sym (all_pages (20 + 4 * b) (omega arith) u v))
+      (section_alike here there refl 4 (24 + 4 * b + 4 * (b * p)) (b * p) (4 * (b * p)) (28 + 4 * b + 8 * (b * p)) (checked_contents here b p l) (checked_contents there b p l) (omega arith)
+      (λ h. s.stamps (omega arith) ∙ sym (all_pages (24 + 4 * b + 4 * (b * p)) (omega arith) u v))
+      (section_alike here there refl 5 (28 + 4 * b + 8 * (b * p)) (b * p) (512 * (b * p)) (image_length b p) (checked_end here b p l) (checked_end there b p l) (omega arith)
+      (λ h. s.contents (omega arith) ∙ sym (all_pages (28 + 4 * b + 8 * (b * p)) (omega arith) u v))
+      (ap (λ z. and_then (within 5 z) (λ _. accepted b p l)) (end_same here there refl (image_length b p))))))
+
+  shape_alike : with_shape (shape_blocks here) (checked_counts here) ≡ with_shape (shape_blocks there) (checked_counts there)
+  shape_alike =
+      shape_then (within 1 (ranged_at here 4 4096)) (λ z. shape_pages here z) (checked_counts here)
+      ∙ ranged_alike here there refl 4 b 4096 (λ z. with_shape (shape_pages here z) (checked_counts here)) (λ z. with_shape (shape_pages there z) (checked_counts there)) s.blocks refl
+      (λ _ u. shape_then (within 1 (ranged_at here 8 64)) (λ z. shape_life here b z) (checked_counts here)
+      ∙ ranged_alike here there refl 8 p 64 (λ z. with_shape (shape_life here b z) (checked_counts here)) (λ z. with_shape (shape_life there b z) (checked_counts there)) s.pages refl
+      (λ _ v. shape_then (within 1 (ranged_at here 12 100000)) (λ z. accepted b p z) (checked_counts here)
+      ∙ ranged_alike here there refl 12 l 100000 (checked_counts here b p) (checked_counts there b p) s.life refl (λ _ _. rest_alike u v)
+      ∙ sym (shape_then (within 1 (ranged_at there 12 100000)) (λ z. accepted b p z) (checked_counts there)))
+      ∙ sym (shape_then (within 1 (ranged_at there 8 64)) (λ z. shape_life there b z) (checked_counts there)))
+      ∙ sym (shape_then (within 1 (ranged_at there 4 4096)) (λ z. shape_pages there z) (checked_counts there))
 
   all_alike : checked bs ≡ room_checked N b p l
-  unfolding checked shape_at room_checked
+  unfolding checked_in shape_at
   all_alike =
-      shape_then (within 1 (section_at bs 0 3 12)) (λ _. shape_blocks bs) (checked_counts bs)
-      ∙ alike 1 (section_at bs 0 3 12) (room_at N 0 12) (λ _. with_shape (shape_blocks bs) (checked_counts bs)) (λ _. room_blocks N b p l)
-      (section_room bs 0 3 12 (λ h. s.first (omega arith))) (λ j q. shape_alike (omega (arith, room_found N 0 12 j q)))
+      shape_then (within 1 (section_at here 0 3 12)) (λ _. shape_blocks here) (checked_counts here)
+      ∙ section_alike here there refl 1 0 3 12 16 (λ _. with_shape (shape_blocks here) (checked_counts here)) (λ _. with_shape (shape_blocks there) (checked_counts there)) refl s.first shape_alike
+      ∙ sym (shape_then (within 1 (section_at there 0 3 12)) (λ _. shape_blocks there) (checked_counts there))
 
 pub verdict : (n b p l : ℕ) → Verdict n b p l
 verdict n b p l bs e s = all_alike bs b p l s ∙ ap (λ m. room_checked m b p l) e
+
+-- the geometry that a plan was checked to state is its own, and fits
+pub plan_fits : (n : ℕ) (g : Geometry) (b p l : ℕ) → accepted b p l ≡ room_checked n g.blocks g.pages g.life →
+    (accepted b p l ≡ accepted g.blocks g.pages g.life) × Fits n g
+plan_fits n g b p l e =
+    let a = sound_in (planned n g.blocks g.pages g.life) b p l (sym e) in
+    let x : g.blocks ≡ b = a.blocks in
+    let y : g.pages ≡ p = a.pages in
+    let z : g.life ≡ l = a.life in
+    (cc, record {
+      long = a.long ∙ rw (x, y);
+      some_blocks = omega arith;
+      most_blocks = omega arith;
+      some_pages = omega arith;
+      most_pages = omega arith;
+      some_life = omega arith;
+      most_life = omega arith;
+    })
 
 -- what the writer leaves in n bytes
 pub written : (n : ℕ) (g : Geometry) (filled out : List ℕ) → Fits n g → filled ≡ replicate n 255 → out ≡ all_patched filled (blank_patches g.blocks g.pages g.life) →

@@ -39,6 +39,7 @@ use Rattle.image.specs.Format.{
   Checked,
   accepted,
   faulty,
+  in_bytes,
   checked,
 }
 
@@ -62,7 +63,7 @@ module _ (bs : List ℕ) (b p l : ℕ) (long : length bs ≡ image_length b p) w
     pub stamps : Apart ps (24 + 4 * b + 4 * (b * p)) 4
     pub contents : Apart ps (28 + 4 * b + 8 * (b * p)) 4
 
-  pub still_accepted : (ps : List (ℕ × List ℕ)) → Clear ps → Accepted bs b p l → Accepted (all_patched bs ps) b p l
+  pub still_accepted : (ps : List (ℕ × List ℕ)) → Clear ps → Accepted (in_bytes bs) b p l → Accepted (in_bytes (all_patched bs ps)) b p l
   still_accepted ps x a =
       let at : (k : ℕ) → k + 4 ≤ 20 → word (all_patched bs ps) k ≡ word bs k = λ k h. word_apart bs ps k x.within (x.shape k h) in
       record {
@@ -134,7 +135,7 @@ module _ (bs : List ℕ) (b p l : ℕ) (long : length bs ≡ image_length b p) w
       let q : c * p + o < b * p = omega (arith, mul-add-lt c p o b h k) in
       length_all bs (on_page (c * p + o) s t ys q w) (page_within (c * p + o) s t ys q w)
 
-  pub programmed_clear : (c o s t : ℕ) (ys : List ℕ) → c < b → o < p → length ys ≡ 512 → Accepted bs b p l → Accepted (image_programmed bs b p (c * p + o) s t ys) b p l
+  pub programmed_clear : (c o s t : ℕ) (ys : List ℕ) → c < b → o < p → length ys ≡ 512 → Accepted (in_bytes bs) b p l → Accepted (in_bytes (image_programmed bs b p (c * p + o) s t ys)) b p l
   programmed_clear c o s t ys h k w a =
       let q : c * p + o < b * p = omega (arith, mul-add-lt c p o b h k) in
       still_accepted (on_page (c * p + o) s t ys q w) (page_clear (c * p + o) s t ys q w) a
@@ -229,7 +230,7 @@ module _ (bs : List ℕ) (b p l : ℕ) (long : length bs ≡ image_length b p) w
   pub erased_long : (c : ℕ) → c < b → word bs (count_place c) + 1 < 2 ^ 32 → length (image_erased bs b p c) ≡ length bs
   erased_long c h few = length_all bs (on_block c h few) (block_within c h few)
 
-  pub erased_clear : (c : ℕ) → c < b → word bs (count_place c) + 1 < 2 ^ 32 → Accepted bs b p l → Accepted (image_erased bs b p c) b p l
+  pub erased_clear : (c : ℕ) → c < b → word bs (count_place c) + 1 < 2 ^ 32 → Accepted (in_bytes bs) b p l → Accepted (in_bytes (image_erased bs b p c)) b p l
   erased_clear c h few a = still_accepted (on_block c h few) (block_clear c h few) a
 
   pub erased_image : (c : ℕ) → c < b → word bs (count_place c) + 1 < 2 ^ 32 →
@@ -347,7 +348,7 @@ module _ (bs : List ℕ) (g r : Geometry) (own : r ≡ g) (f : Fits (length bs) 
 
   -- a change that keeps an accepted image accepted leaves an image
   stays : (bs' : List ℕ) → length bs' ≡ length bs →
-      (Accepted bs r.blocks r.pages r.life → Accepted bs' r.blocks r.pages r.life) →
+      (Accepted (in_bytes bs) r.blocks r.pages r.life → Accepted (in_bytes bs') r.blocks r.pages r.life) →
       StaysImage bs (chip_flash bs g) bs' (chip_flash bs' g)
   unfolding image_flash
   stays bs' l keep e =

@@ -4,12 +4,14 @@ ghost use Rattle.std.specs.Prelude.{◌≡◌, ◌+◌, ◌^◌, ◌<◌, ◌≤
 ghost use Rattle.flash.specs.Patched.{patched};
 ghost use Rattle.image.specs.Format.{word, word_bytes};
 
+use image::source::Source;
+
 // The number at a byte.
 pub(crate) fn number_at(bytes: &[u8], at: usize) -> u32
     requires { at + 4 ≤ length bytes.now }
     ensures { result ≡ word bytes.now at }
 {
-    u32::from_le_bytes([bytes[at], bytes[at + 1], bytes[at + 2], bytes[at + 3]])
+    bytes.number(at).unwrap()
 }
 
 pub(crate) fn put_bytes(bytes: &mut [u8], at: usize, part: &[u8])

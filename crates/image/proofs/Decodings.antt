@@ -4,7 +4,7 @@ use Rattle.std.proofs.ByRecursion.{All-from_get_or}
 use Rattle.std.proofs.lemmas.List.{get_or-take, get_or-drop}
 use Rattle.std.specs.List.{flat_map, AllByRecursion}
 use Rattle.image.specs.Chip.{Chip, counted, numbers, encoding, InRange, Fits32, WholePage}
-use Rattle.image.specs.Format.{word, word_bytes, items_from, words_from}
+use Rattle.image.specs.Format.{word, in_bytes, word_bytes, items_from, words_from}
 use Rattle.image.proofs.Checks.{Accepted}
 use Rattle.image.proofs.Words.{Bytes, word_bytes_at, word_fits}
 
@@ -63,7 +63,7 @@ module _ (bs : List ℕ) where
     contents = items_from page_at 512 (32 + 4 * b + 8 * (b * p)) (b * p);
   }
 
-  module _ (b p l : ℕ) (byte : Bytes bs) (a : Accepted bs b p l) where
+  module _ (b p l : ℕ) (byte : Bytes bs) (a : Accepted (in_bytes bs) b p l) where
     words_fit : (k n : ℕ) → AllByRecursion Fits32 (words_from bs k n)
     words_fit k n = all_items_from Fits32 (word bs) 4 k n (k + 4 * n) (omega arith) (λ j h. word_fits bs j byte)
 

@@ -6,7 +6,7 @@ use Rattle.std.proofs.lemmas.List.{get_or_past}
 use Rattle.std.proofs.lemmas.Bool.{cases_lt}
 use Rattle.std.specs.List.{flat_map, AllByRecursion}
 use Rattle.image.specs.Chip.{Chip, counted, numbers, encoding, InRange, Fits32, WholePage, blank_chip}
-use Rattle.image.specs.Format.{word, word_bytes, image_length}
+use Rattle.image.specs.Format.{word, in_bytes, word_bytes, image_length}
 use Rattle.image.proofs.Checks.{Accepted}
 use Rattle.image.proofs.Words.{Bytes, word_of, word_past}
 
@@ -68,7 +68,7 @@ module _ (c : Chip) (ok : InRange c) where
         length-append s₄ s₅,
       )
 
-  pub encoding_accepted : Accepted (encoding c) c.blocks c.pages c.life
+  pub encoding_accepted : Accepted (in_bytes (encoding c)) c.blocks c.pages c.life
   unfolding encoding word
   encoding_accepted =
       let small = few in

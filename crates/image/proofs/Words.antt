@@ -1,7 +1,8 @@
 -- A number and its four bytes.
-use Rattle.std.proofs.Common.{◌≡◌, ℕ, ◌+◌, ◌*◌, ◌/◌, ◌%◌, ◌^◌, ◌<◌, ◌≤◌, List, [], ◌∷◌, ◌++◌, length, get_or, take, drop, sym, ◌∙◌, arith, get_or-append-add}
+use Rattle.std.proofs.Common.{◌≡◌, ℕ, ◌+◌, ◌*◌, ◌/◌, ◌%◌, ◌^◌, ◌<◌, ◌≤◌, List, [], ◌∷◌, ◌++◌, length, get_or, take, drop, sym, ap, ◌∙◌, arith, get_or-append-add, get_or-take, get_or-drop, w32}
 use native.Mathlib.Nat.{div-div-eq-div-mul}
 use Rattle.std.proofs.lemmas.List.{drop_more}
+use Rattle.std.specs.Int.{from_le_bytes}
 use Rattle.image.specs.Format.{word, word_bytes}
 
 -- Each item is a byte, as in every slice of `u8`.
@@ -57,6 +58,20 @@ four bs k h =
     let n₁ : k + 1 + 1 ≡ k + 2 = omega arith in
     let n₂ : k + 2 + 1 ≡ k + 3 = omega arith in
     rw (d₀, d₁, n₁, d₂, n₂, d₃)
+
+-- four bytes of a part of the bytes
+part_at : (bs : List ℕ) (a m k n i : ℕ) → i < n → k + n ≤ m → a + m ≤ length bs → get_or (take n (drop k (take m (drop a bs)))) i 0 ≡ get_or bs (a + k + i) 0
+part_at bs a m k n i h j l =
+    let h' : k + i < m = omega arith in
+    let e : a + (k + i) ≡ a + k + i = omega arith in
+    rw (get_or-take, get_or-drop, get_or-take, get_or-drop, e)
+
+pub word_part : (bs ys : List ℕ) (a m k : ℕ) → ys ≡ take 4 (drop k (take m (drop a bs))) → k + 4 ≤ m → a + m ≤ length bs → from_le_bytes w32 ys ≡ word bs (a + k)
+unfolding word
+word_part bs ys a m k e h l =
+    let p : (i : ℕ) → i < 4 → get_or ys i 0 ≡ get_or bs (a + k + i) 0 = λ i j. ap (λ zs. get_or zs i 0) e ∙ part_at bs a m k 4 i j h l in
+    let z : a + k + 0 ≡ a + k = omega arith in
+    rw (p 0 (omega arith), p 1 (omega arith), p 2 (omega arith), p 3 (omega arith), z)
 
 -- the bytes at a place are those of the number there
 pub word_bytes_at : (bs : List ℕ) (k : ℕ) → Bytes bs → k + 4 ≤ length bs → word_bytes (word bs k) ≡ take 4 (drop k bs)

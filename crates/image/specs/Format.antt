@@ -40,27 +40,36 @@ pub data Found : Type 0 where
   found : ℕ → Found
   fault : ℕ → ℕ → Found
 
--- The number at byte k.
-unfoldable pub number_at : List ℕ → ℕ → Found
-number_at bs k = cond (nat_lt (length bs) (k + 4)) (fault 7 k) (found (word bs k))
+-- What the check of an image reads: how many bytes there are, and the number that stands at each of them.
+pub record Words : Type 0 where
+  pub size : ℕ
+  pub word : ℕ → ℕ
 
--- The number at byte k, which is to be from 1 to most.
-unfoldable pub ranged_at : List ℕ → ℕ → ℕ → Found
-ranged_at bs k most =
-    cond (nat_lt (length bs) (k + 4)) (fault 7 k)
-    (cond (nat_le 1 (word bs k) && nat_le (word bs k) most) (found (word bs k)) (fault 9 k))
+abbrev pub in_bytes : List ℕ → Words
+in_bytes bs = record { size = length bs; word = word bs }
 
--- The end of a section that begins at byte k, whose count is to be n and whose items take m bytes.
-unfoldable pub section_at : List ℕ → ℕ → ℕ → ℕ → Found
-section_at bs k n m =
-    cond (nat_lt (length bs) (k + 4)) (fault 7 k)
-    (cond (word bs k == n)
-    (cond (nat_lt (length bs) (k + 4 + m)) (fault 7 (k + 4)) (found (k + 4 + m)))
-    (fault 8 k))
+module _ (x : Words) where
+  -- The number at byte k.
+  unfoldable pub number_at : ℕ → Found
+  number_at k = cond (nat_lt x.size (k + 4)) (fault 7 k) (found (x.word k))
 
--- Byte k, which is to be the end of all bytes.
-unfoldable pub end_at : List ℕ → ℕ → Found
-end_at bs k = cond (nat_lt k (length bs)) (fault 10 k) (found k)
+  -- The number at byte k, which is to be from 1 to most.
+  unfoldable pub ranged_at : ℕ → ℕ → Found
+  ranged_at k most =
+      cond (nat_lt x.size (k + 4)) (fault 7 k)
+      (cond (nat_le 1 (x.word k) && nat_le (x.word k) most) (found (x.word k)) (fault 9 k))
+
+  -- The end of a section that begins at byte k, whose count is to be n and whose items take m bytes.
+  unfoldable pub section_at : ℕ → ℕ → ℕ → Found
+  section_at k n m =
+      cond (nat_lt x.size (k + 4)) (fault 7 k)
+      (cond (x.word k == n)
+      (cond (nat_lt x.size (k + 4 + m)) (fault 7 (k + 4)) (found (k + 4 + m)))
+      (fault 8 k))
+
+  -- Byte k, which is to be the end of all bytes.
+  unfoldable pub end_at : ℕ → Found
+  end_at k = cond (nat_lt k x.size) (fault 10 k) (found k)
 
 -- The same with its section: a value, or a fault's number, section and byte.
 pub data Placed : Type 0 where
@@ -86,35 +95,40 @@ abbrev pub with_shape : Checked → (ℕ → ℕ → ℕ → Checked) → Checke
 with_shape (accepted b p l) next = next b p l
 with_shape (faulty m s k) next = faulty m s k
 
--- Section 1: its count and its 12 bytes, then blocks, pages and life in range.
-abbrev pub shape_life : List ℕ → ℕ → ℕ → Checked
-shape_life bs b p = and_then (within 1 (ranged_at bs 12 100000)) (λ l. accepted b p l)
+module _ (x : Words) where
+  -- Section 1: its count and its 12 bytes, then blocks, pages and life in range.
+  abbrev pub shape_life : ℕ → ℕ → Checked
+  shape_life b p = and_then (within 1 (ranged_at x 12 100000)) (λ l. accepted b p l)
 
-abbrev pub shape_pages : List ℕ → ℕ → Checked
-shape_pages bs b = and_then (within 1 (ranged_at bs 8 64)) (λ p. shape_life bs b p)
+  abbrev pub shape_pages : ℕ → Checked
+  shape_pages b = and_then (within 1 (ranged_at x 8 64)) (λ p. shape_life b p)
 
-abbrev pub shape_blocks : List ℕ → Checked
-shape_blocks bs = and_then (within 1 (ranged_at bs 4 4096)) (λ b. shape_pages bs b)
+  abbrev pub shape_blocks : Checked
+  shape_blocks = and_then (within 1 (ranged_at x 4 4096)) (λ b. shape_pages b)
 
-unfoldable pub shape_at : List ℕ → Checked
-shape_at bs = and_then (within 1 (section_at bs 0 3 12)) (λ _. shape_blocks bs)
+  unfoldable pub shape_at : Checked
+  shape_at = and_then (within 1 (section_at x 0 3 12)) (λ _. shape_blocks)
 
--- The other sections from the last one back, and the end: the image says b blocks, p pages and the life l, and the part begins at byte k.
-abbrev pub checked_end : List ℕ → ℕ → ℕ → ℕ → ℕ → Checked
-checked_end bs b p l k = and_then (within 5 (end_at bs k)) (λ _. accepted b p l)
+  -- The other sections from the last one back, and the end: the image says b blocks, p pages and the life l, and the part begins at byte k.
+  abbrev pub checked_end : ℕ → ℕ → ℕ → ℕ → Checked
+  checked_end b p l k = and_then (within 5 (end_at x k)) (λ _. accepted b p l)
 
-abbrev pub checked_contents : List ℕ → ℕ → ℕ → ℕ → ℕ → Checked
-checked_contents bs b p l k = and_then (within 5 (section_at bs k (b * p) (512 * (b * p)))) (checked_end bs b p l)
+  abbrev pub checked_contents : ℕ → ℕ → ℕ → ℕ → Checked
+  checked_contents b p l k = and_then (within 5 (section_at x k (b * p) (512 * (b * p)))) (checked_end b p l)
 
-abbrev pub checked_stamps : List ℕ → ℕ → ℕ → ℕ → ℕ → Checked
-checked_stamps bs b p l k = and_then (within 4 (section_at bs k (b * p) (4 * (b * p)))) (checked_contents bs b p l)
+  abbrev pub checked_stamps : ℕ → ℕ → ℕ → ℕ → Checked
+  checked_stamps b p l k = and_then (within 4 (section_at x k (b * p) (4 * (b * p)))) (checked_contents b p l)
 
-abbrev pub checked_sectors : List ℕ → ℕ → ℕ → ℕ → ℕ → Checked
-checked_sectors bs b p l k = and_then (within 3 (section_at bs k (b * p) (4 * (b * p)))) (checked_stamps bs b p l)
+  abbrev pub checked_sectors : ℕ → ℕ → ℕ → ℕ → Checked
+  checked_sectors b p l k = and_then (within 3 (section_at x k (b * p) (4 * (b * p)))) (checked_stamps b p l)
 
-abbrev pub checked_counts : List ℕ → ℕ → ℕ → ℕ → Checked
-checked_counts bs b p l = and_then (within 2 (section_at bs 16 b (4 * b))) (checked_sectors bs b p l)
+  abbrev pub checked_counts : ℕ → ℕ → ℕ → Checked
+  checked_counts b p l = and_then (within 2 (section_at x 16 b (4 * b))) (checked_sectors b p l)
 
--- The whole check.
-unfoldable pub checked : List ℕ → Checked
-checked bs = with_shape (shape_at bs) (checked_counts bs)
+  -- The whole check.
+  unfoldable pub checked_in : Checked
+  checked_in = with_shape shape_at checked_counts
+
+-- The check of bytes.
+abbrev pub checked : List ℕ → Checked
+checked bs = checked_in (in_bytes bs)

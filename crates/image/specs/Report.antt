@@ -9,7 +9,7 @@ use Rattle.image.specs.declared.fault.SectionFault.{SectionFault}
 use Rattle.image.specs.declared.report.Report.{Report}
 use Rattle.image.specs.declared.report.Report.TheVariants.{Accepted, Refused, TooLong}
 use Rattle.image.specs.Format.{words_from, Checked, accepted, faulty, checked}
-use Rattle.image.specs.Told.{problem_number, section_number}
+use Rattle.image.specs.Told.{section_number, fault_number, fault_section, fault_byte}
 
 -- A chip of b blocks of p pages with the life l, erased t times in all.
 abbrev pub chip_line : ℕ → ℕ → ℕ → ℕ → List ℕ
@@ -32,7 +32,7 @@ look_line bs = cond (nat_lt 65536 (length bs)) (codes "too long") (checked_line 
 -- The line that a report prints.
 abbrev pub report_line : Report → List ℕ
 report_line (Accepted g t) = chip_line g.blocks g.pages g.life t
-report_line (Refused e) = fault_line (problem_number e.fault.fault.problem) (section_number e.fault.section) e.fault.fault.byte
+report_line (Refused e) = fault_line (fault_number e) (fault_section e) (fault_byte e)
 report_line TooLong = codes "too long"
 
 -- Of the image of a chip that is short enough, the line tells that chip's numbers, and its erase counts added up.

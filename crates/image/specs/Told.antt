@@ -40,6 +40,16 @@ abbrev pub in_named : {T : Type 0} → Section → Result T NumberFault → Resu
 in_named s (Ok x) = Ok x
 in_named s (Err e) = Err (record { section = s; fault = e })
 
+-- A fault of an image: the number of the refusal, its section and its byte.
+abbrev pub fault_number : ImageFault → ℕ
+fault_number e = problem_number e.fault.fault.problem
+
+abbrev pub fault_section : ImageFault → ℕ
+fault_section e = section_number e.fault.section
+
+abbrev pub fault_byte : ImageFault → ℕ
+fault_byte e = e.fault.fault.byte
+
 abbrev pub check_told : Result Geometry ImageFault → Checked
 check_told (Ok g) = accepted g.blocks g.pages g.life
-check_told (Err e) = faulty (problem_number e.fault.fault.problem) (section_number e.fault.section) e.fault.fault.byte
+check_told (Err e) = faulty (fault_number e) (fault_section e) (fault_byte e)

@@ -5,7 +5,7 @@
 
 ghost use Rattle.std.specs.Prelude.{◌≡◌, Some};
 ghost use Rattle.image.specs.Report.{problem_text, number_text, section_text, image_text};
-ghost use Rattle.image.specs.Told.{problem_number, section_number, in_named};
+ghost use Rattle.image.specs.Told.{problem_number, section_number, in_named, fault_number, fault_section, fault_byte};
 
 use std::error::Error;
 use std::fmt;
@@ -14,13 +14,13 @@ use std::fmt;
 #[derive(Clone, Copy, PartialEq, Eq, Debug)]
 pub enum Problem {
     // the bytes end inside a count or an item list
-    EndsInside,
+    EndsInside = 7,
     // a section's count is not what it has to be
-    WrongCount,
+    WrongCount = 8,
     // blocks, pages or life are out of range
-    OutOfRange,
+    OutOfRange = 9,
     // bytes follow the last section
-    Surplus,
+    Surplus = 10,
 }
 
 impl Problem {
@@ -28,12 +28,7 @@ impl Problem {
     pub fn number(self) -> u32
         ensures { result ≡ problem_number self }
     {
-        match self {
-            Problem::EndsInside => 7,
-            Problem::WrongCount => 8,
-            Problem::OutOfRange => 9,
-            Problem::Surplus => 10,
-        }
+        self as u32
     }
 
     // The fault that it is at a byte.
@@ -63,8 +58,7 @@ impl fmt::Display for Problem {
     ghost output = { λ x. Some (problem_text x) };
 
     fn fmt<W: fmt::Write>(&self, f: &mut fmt::Formatter<W>) -> fmt::Result {
-        let reason = self.reason();
-        write!(f, "{reason}")
+        f.write_str(self.reason())
     }
 }
 
@@ -87,37 +81,28 @@ impl fmt::Display for NumberFault {
 // The five sections of an image, in their order.
 #[derive(Clone, Copy, PartialEq, Eq, Debug)]
 pub enum Section {
-    Shape,
-    EraseCounts,
-    SectorNumbers,
-    Stamps,
-    Contents,
+    Shape = 1,
+    EraseCounts = 2,
+    SectorNumbers = 3,
+    Stamps = 4,
+    Contents = 5,
 }
 
 impl Section {
     pub fn number(self) -> u32
         ensures { result ≡ section_number self }
     {
-        match self {
-            Section::Shape => 1,
-            Section::EraseCounts => 2,
-            Section::SectorNumbers => 3,
-            Section::Stamps => 4,
-            Section::Contents => 5,
-        }
+        self as u32
     }
 
     // What was read in this section, or its fault with the section's name.
     pub fn within<T>(self, read: Result<T, NumberFault>) -> Result<T, SectionFault>
         ensures { result ≡ in_named self read }
     {
-        match read {
-            Ok(value) => Ok(value),
-            Err(fault) => Err(SectionFault {
-                section: self,
-                fault,
-            }),
-        }
+        read.map_err(|fault| SectionFault {
+            section: self,
+            fault,
+        })
     }
 }
 
@@ -142,6 +127,29 @@ impl fmt::Display for SectionFault {
 #[derive(Clone, Copy, PartialEq, Eq, Debug)]
 pub struct ImageFault {
     pub fault: SectionFault,
+}
+
+impl ImageFault {
+    // The number of the refusal.
+    pub fn number(self) -> u32
+        ensures { result ≡ fault_number self }
+    {
+        self.fault.fault.problem.number()
+    }
+
+    // The number of the section that the fault is in.
+    pub fn section(self) -> u32
+        ensures { result ≡ fault_section self }
+    {
+        self.fault.section.number()
+    }
+
+    // The byte at which what is wrong begins.
+    pub fn byte(self) -> usize
+        ensures { result ≡ fault_byte self }
+    {
+        self.fault.fault.byte
+    }
 }
 
 impl From<SectionFault> for ImageFault {

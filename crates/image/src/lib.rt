@@ -7,3 +7,4 @@ pub mod fault;
 mod read;
 pub mod report;
 pub mod shape;
+pub mod source;

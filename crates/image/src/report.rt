@@ -6,7 +6,6 @@ ghost use Rattle.image.specs.Report.{look_line, report_line, ReportLaw};
 
 use crate::check::check;
 use crate::fault::ImageFault;
-use crate::read::number_at;
 use crate::shape::Geometry;
 use std::fmt;
 
@@ -40,9 +39,9 @@ impl fmt::Display for Report {
                 )
             }
             Report::Refused(fault) => {
-                let number = fault.fault.fault.problem.number();
-                let section = fault.fault.section.number();
-                let byte = fault.fault.fault.byte;
+                let number = fault.number();
+                let section = fault.section();
+                let byte = fault.byte();
                 write!(f, "refused {number} section {section} byte {byte}")
             }
             Report::TooLong => write!(f, "too long"),
@@ -56,9 +55,10 @@ fn erase_total(bytes: &[u8], blocks: u32) -> u64
     requires within { 20 + 4 * blocks ≤ length bytes.now }
     ensures { result ≡ sum (words_from bytes.now 20 blocks) }
 {
-    let mut total = 0u64;
-    for block in 0..blocks {
-        total += u64::from(number_at(bytes, 20 + 4 * block as usize));
+    let (counts, _) = bytes[20..20 + 4 * blocks as usize].as_chunks();
+    let mut total = 0;
+    for count in counts {
+        total += u64::from(u32::from_le_bytes(*count));
     }
     total
 }

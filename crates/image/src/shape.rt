@@ -25,12 +25,9 @@ impl Geometry {
     pub fn in_range(self) -> bool
         ensures { result ≡ ranged self.blocks self.pages self.life }
     {
-        self.blocks >= 1
-            && self.blocks <= MOST_BLOCKS
-            && self.pages >= 1
-            && self.pages <= MOST_PAGES
-            && self.life >= 1
-            && self.life <= MOST_LIFE
+        (1..=MOST_BLOCKS).contains(&self.blocks)
+            && (1..=MOST_PAGES).contains(&self.pages)
+            && (1..=MOST_LIFE).contains(&self.life)
     }
 
     // How long its image is, where there is one.

@@ -8,10 +8,8 @@ use std::test::Fail;
 // How many bytes are read of `given` sevens, with the limit `most`.
 fn read_of(rt: &impl Abort, heap: Global, given: usize, most: usize) -> Result<usize, Fail> {
     let bytes = vec![in heap; 7u8; given]?;
-    let Ok(read) = read_input(heap, bytes.as_slice(), most) else {
-        return Err(Fail::new("it could not be read"));
-    };
-    for byte in read.iter() {
+    let read = read_input(heap, bytes.as_slice(), most)?;
+    for byte in &read {
         assert_eq!(rt; *byte, 7);
     }
     Ok(read.len())

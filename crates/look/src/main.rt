@@ -5,12 +5,8 @@
 use image::report::{MOST_BYTES, look};
 use input::read_input;
 
-fn run(rt: &HostRuntime) -> anyhow::Result<()> {
+fn main(rt: HostRuntime) -> anyhow::Result<()> {
     let bytes = read_input(rt.alloc(), rt.stdin(), MOST_BYTES)?;
     rt.println(look(&bytes))?;
     Ok(())
-}
-
-fn main(rt: HostRuntime) -> anyhow::Result<()> {
-    run(&rt)
 }
