@@ -10,7 +10,7 @@ use Rattle.flash.specs.Patched.{all_patched}
 use Rattle.flash.specs.Stored.{page_at, image_in, geometry_by, image_flash, Fits}
 use Rattle.flash.proofs.Patches.{Within, Rising, Has, length_all, word_apart, word_among, run_among, word_all}
 use Rattle.flash.proofs.Same.{same_flash}
-use Rattle.image.proofs.Checks.{Accepted, section_found, ranged_found, sound_in, complete}
+use Rattle.image.proofs.Checks.{Accepted, section_found, ranged_found, sound_in, complete_in, complete}
 use Rattle.image.specs.declared.shape.Geometry.{Geometry}
 use Rattle.image.specs.Format.{word, word_bytes, image_length, count_place, sector_place, Found, found, fault, Words, in_bytes, Placed, placed, misplaced, within, and_then, with_shape, ranged_at, section_at, end_at, shape_at, shape_blocks, shape_pages, shape_life, checked_counts, checked_sectors, checked_stamps, checked_contents, checked_end, Checked, accepted, checked_in, checked}
 
@@ -137,6 +137,10 @@ module _ (x y : Words) (size : x.size ≡ y.size) where
       alike 1 (ranged_at x k most) (ranged_at y k most) f g (ranged_same k most h)
       (λ j q. let r = ranged_found y k most j q in let e : j ≡ v = sym r.0 ∙ w in let u = z (omega arith) (omega arith) in rw e u)
 
+-- the counts of the last three sections of a plan
+all_pages : (n b p l k : ℕ) → 16 < k → b ≤ 4096 → p ≤ 64 → (planned n b p l).word k ≡ b * p
+all_pages n b p l k h u v = let few = mul-le b p 4096 64 u v in grind (arith, nat_tests)
+
 module _ (bs : List ℕ) (b p l : ℕ) (s : States bs b p l) where
   abbrev N : ℕ
   N = length bs
@@ -147,19 +151,15 @@ module _ (bs : List ℕ) (b p l : ℕ) (s : States bs b p l) where
   abbrev there : Words
   there = planned N b p l
 
-  -- the counts of the last three sections
-  all_pages : (k : ℕ) → 16 < k → b ≤ 4096 → p ≤ 64 → there.word k ≡ b * p
-  all_pages k h u v = let few = mul-le b p 4096 64 u v in grind (arith, nat_tests)
-
   rest_alike : b ≤ 4096 → p ≤ 64 → checked_counts here b p l ≡ checked_counts there b p l
   rest_alike u v =
       section_alike here there refl 2 16 b (4 * b) (20 + 4 * b) (checked_sectors here b p l) (checked_sectors there b p l) (omega arith) s.counts
       (section_alike here there refl 3 (20 + 4 * b) (b * p) (4 * (b * p)) (24 + 4 * b + 4 * (b * p)) (checked_stamps here b p l) (checked_stamps there b p l) (omega arith)
-      (λ h. s.sectors (omega arith) ∙ sym (all_pages (20 + 4 * b) (omega arith) u v))
+      (λ h. s.sectors (omega arith) ∙ sym (all_pages N b p l (20 + 4 * b) (omega arith) u v))
       (section_alike here there refl 4 (24 + 4 * b + 4 * (b * p)) (b * p) (4 * (b * p)) (28 + 4 * b + 8 * (b * p)) (checked_contents here b p l) (checked_contents there b p l) (omega arith)
-      (λ h. s.stamps (omega arith) ∙ sym (all_pages (24 + 4 * b + 4 * (b * p)) (omega arith) u v))
+      (λ h. s.stamps (omega arith) ∙ sym (all_pages N b p l (24 + 4 * b + 4 * (b * p)) (omega arith) u v))
       (section_alike here there refl 5 (28 + 4 * b + 8 * (b * p)) (b * p) (512 * (b * p)) (image_length b p) (checked_end here b p l) (checked_end there b p l) (omega arith)
-      (λ h. s.contents (omega arith) ∙ sym (all_pages (28 + 4 * b + 8 * (b * p)) (omega arith) u v))
+      (λ h. s.contents (omega arith) ∙ sym (all_pages N b p l (28 + 4 * b + 8 * (b * p)) (omega arith) u v))
       (ap (λ z. and_then (within 5 z) (λ _. accepted b p l)) (end_same here there refl (image_length b p))))))
 
   shape_alike : with_shape (shape_blocks here) (checked_counts here) ≡ with_shape (shape_blocks there) (checked_counts there)
@@ -200,6 +200,30 @@ plan_fits n g b p l e =
       most_pages = omega arith;
       some_life = omega arith;
       most_life = omega arith;
+    })
+
+-- a geometry that fits is found in its plan
+pub plan_goes : (n : ℕ) (g : Geometry) → Fits n g → room_checked n g.blocks g.pages g.life ≡ accepted g.blocks g.pages g.life
+plan_goes n g f =
+    let pages : (k : ℕ) → 16 < k → (planned n g.blocks g.pages g.life).word k ≡ g.blocks * g.pages =
+    λ k h. all_pages n g.blocks g.pages g.life k h f.most_blocks f.most_pages in
+    complete_in (planned n g.blocks g.pages g.life) g.blocks g.pages g.life
+    (record {
+      first = refl;
+      blocks = refl;
+      pages = refl;
+      life = refl;
+      counts = refl;
+      sectors = pages (20 + 4 * g.blocks) (omega arith);
+      stamps = pages (24 + 4 * g.blocks + 4 * (g.blocks * g.pages)) (omega arith);
+      contents = pages (28 + 4 * g.blocks + 8 * (g.blocks * g.pages)) (omega arith);
+      long = f.long;
+      b_low = f.some_blocks;
+      b_high = f.most_blocks;
+      p_low = f.some_pages;
+      p_high = f.most_pages;
+      l_low = f.some_life;
+      l_high = f.most_life;
     })
 
 -- what the writer leaves in n bytes

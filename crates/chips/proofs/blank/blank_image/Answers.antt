@@ -23,7 +23,7 @@ returns-in-Err c =
     let made = c.in_ok-bytes.ensures.len in
     let long : n ≡ c.in-Some.length = omega (arith, c.deref_mut.ensures.len) in
     let h = in_range g.blocks g.pages g.life c.in-Some.length (sym c.in-Some.ensures) in
-    let e = told ∙ room_fits g.blocks g.pages g.life n h (long ∙ length_of g.blocks g.pages g.life c.in-Some.length (sym c.in-Some.ensures)) in
+    let e = told ∙ room_fits g n h (long ∙ length_of g.blocks g.pages g.life c.in-Some.length (sym c.in-Some.ensures)) in
     let z : ◌≡◌ {A = ℕ} 0 1 = cc in
     let no : ⊥ = omega arith in
     absurd no
