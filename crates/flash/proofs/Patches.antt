@@ -4,7 +4,7 @@ use lib.ListN.{length-replicate}
 use Rattle.std.proofs.lemmas.List.{places, same_lists, get_or-replicate}
 use Rattle.std.proofs.lemmas.Bool.{cases_lt}
 use Rattle.flash.specs.Patched.{patched, all_patched}
-use Rattle.image.proofs.Words.{word_of}
+use Rattle.std.proofs.lemmas.Nat.{from_le_bytes-to_le_bytes_4}
 use Rattle.image.specs.Format.{word, word_bytes}
 
 module _ (bs : List ℕ) (a : ℕ) (ys : List ℕ) (fits : a + length ys ≤ length bs) where
@@ -50,7 +50,7 @@ word_in bs a n fits small =
     let e₁ : get_or (patched bs a (word_bytes n)) (a + 1) 0 ≡ n / 256 % 256 = get_or_in bs a (word_bytes n) fits 1 (omega arith) in
     let e₂ : get_or (patched bs a (word_bytes n)) (a + 2) 0 ≡ n / 65536 % 256 = get_or_in bs a (word_bytes n) fits 2 (omega arith) in
     let e₃ : get_or (patched bs a (word_bytes n)) (a + 3) 0 ≡ n / 16777216 % 256 = get_or_in bs a (word_bytes n) fits 3 (omega arith) in
-    rw (e₀, e₁, e₂, e₃) (word_of n small)
+    rw (e₀, e₁, e₂, e₃) (from_le_bytes-to_le_bytes_4 n small)
 
 -- a number within bytes that are all v
 word_run : (bs : List ℕ) (a n v k : ℕ) → a + n ≤ length bs → a ≤ k → k + 4 ≤ a + n →

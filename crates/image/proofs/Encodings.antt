@@ -8,7 +8,8 @@ use Rattle.std.specs.List.{flat_map, AllByRecursion}
 use Rattle.image.specs.Chip.{Chip, counted, numbers, encoding, InRange, Fits32, WholePage, blank_chip}
 use Rattle.image.specs.Format.{word, in_bytes, word_bytes, image_length}
 use Rattle.image.proofs.Checks.{Accepted}
-use Rattle.image.proofs.Words.{Bytes, word_of, word_past}
+use Rattle.std.proofs.lemmas.Nat.{from_le_bytes-to_le_bytes_4}
+use Rattle.image.proofs.Words.{Bytes, word_past}
 
 -- items of m bytes each
 pub length_items : {X : Type 0} (bytes : X → List ℕ) (m : ℕ) (xs : List X) → AllByRecursion (λ x. length (bytes x) ≡ m) xs → length (flat_map bytes xs) ≡ m * length xs
@@ -36,7 +37,7 @@ length_pages xs h = let e = length_items (λ page. page) 512 xs (each_whole xs h
 -- the count of a section that stands first
 count_first : {X : Type 0} (bytes : X → List ℕ) (xs : List X) (zs : List ℕ) (n : ℕ) → length xs ≡ n → n < 2 ^ 32 → word (counted bytes xs ++ zs) 0 ≡ n
 unfolding word
-count_first bytes xs zs n e h = word_of (length xs) (omega arith) ∙ e
+count_first bytes xs zs n e h = from_le_bytes-to_le_bytes_4 (length xs) (omega arith) ∙ e
 
 -- the same past one section, and past two
 module _ {X : Type 0} (bytes : X → List ℕ) (xs : List X) (n : ℕ) (e : length xs ≡ n) (h : n < 2 ^ 32) where
@@ -82,9 +83,9 @@ module _ (c : Chip) (ok : InRange c) where
       let n₄ : length (numbers c.stamps) ≡ 4 + 4 * (c.blocks * c.pages) = length_numbers c.stamps ∙ ap (λ n. 4 + 4 * n) ok.all_stamps in
       record {
         first = refl;
-        blocks = word_of c.blocks (omega arith);
-        pages = word_of c.pages (omega arith);
-        life = word_of c.life (omega arith);
+        blocks = from_le_bytes-to_le_bytes_4 c.blocks (omega arith);
+        pages = from_le_bytes-to_le_bytes_4 c.pages (omega arith);
+        life = from_le_bytes-to_le_bytes_4 c.life (omega arith);
         counts = count_second word_bytes c.counts c.blocks ok.all_counts (omega arith) s₁ (s₃ ++ (s₄ ++ s₅)) 16 refl;
         sectors = count_third word_bytes c.sectors (c.blocks * c.pages) ok.all_sectors (omega arith) s₁ s₂ (s₄ ++ s₅)
             (20 + 4 * c.blocks) (4 + 4 * c.blocks) (omega arith) n₂;
@@ -95,7 +96,7 @@ module _ (c : Chip) (ok : InRange c) where
             ∙ word_past s₂ (s₃ ++ (s₄ ++ s₅)) (12 + 4 * c.blocks + 8 * (c.blocks * c.pages)) (8 + 8 * (c.blocks * c.pages)) (omega arith)
             ∙ word_past s₃ (s₄ ++ s₅) (8 + 8 * (c.blocks * c.pages)) (4 + 4 * (c.blocks * c.pages)) (omega arith)
             ∙ word_past s₄ s₅ (4 + 4 * (c.blocks * c.pages)) 0 (omega arith)
-            ∙ word_of (length c.contents) (omega arith) ∙ ok.all_contents;
+            ∙ from_le_bytes-to_le_bytes_4 (length c.contents) (omega arith) ∙ ok.all_contents;
         long = length_encoding;
         b_low = ok.some_blocks;
         b_high = ok.most_blocks;
