@@ -191,16 +191,18 @@ plan_fits n g b p l e =
     let a = sound_in (planned n g.blocks g.pages g.life) b p l (sym e) in
     let x : g.blocks ≡ b = a.blocks in
     let y : g.pages ≡ p = a.pages in
-    let z : g.life ≡ l = a.life in
-    (cc, record {
-      long = a.long ∙ rw (x, y);
-      some_blocks = omega arith;
-      most_blocks = omega arith;
-      some_pages = omega arith;
-      most_pages = omega arith;
-      some_life = omega arith;
-      most_life = omega arith;
-    })
+    let z : g.life ≡ l = a.life in (
+      cc,
+      record {
+        long = a.long ∙ rw (x, y);
+        some_blocks = omega arith;
+        most_blocks = omega arith;
+        some_pages = omega arith;
+        most_pages = omega arith;
+        some_life = omega arith;
+        most_life = omega arith;
+      },
+    )
 
 -- a geometry that fits is found in its plan
 pub plan_goes : (n : ℕ) (g : Geometry) → Fits n g → room_checked n g.blocks g.pages g.life ≡ accepted g.blocks g.pages g.life

@@ -30,7 +30,7 @@ impl Source for Unwritten {
     }
 
     fn number(&self, at: usize) -> Option<u32> {
-        if self.size < 4 || self.size - 4 < at {
+        if self.size < at.checked_add(4)? {
             return None;
         }
         let Geometry {

@@ -19,7 +19,13 @@ pub fn check_source<S: Source>(source: &S) -> Result<Geometry, ImageFault>
     let geometry = read_shape(source)?;
     let blocks = geometry.blocks;
     let all = blocks * geometry.pages;
-    let sectors = read_section(source, Section::EraseCounts, 16, blocks, 4 * blocks as usize)?;
+    let sectors = read_section(
+        source,
+        Section::EraseCounts,
+        16,
+        blocks,
+        4 * blocks as usize,
+    )?;
     let stamps = read_section(
         source,
         Section::SectorNumbers,
