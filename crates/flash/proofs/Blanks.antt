@@ -25,7 +25,7 @@ use Rattle.flash.specs.BlankImage.{
 }
 use Rattle.flash.specs.Meaning.{blank}
 use Rattle.flash.specs.Patched.{all_patched}
-use Rattle.flash.specs.Stored.{page_at, image_in, geometry_by, image_flash, Fits}
+use Rattle.flash.specs.Stored.{page_at, image_in, chip_flash, geometry_by, image_flash, Fits}
 use Rattle.flash.proofs.Patches.{Within, Rising, Has, length_all, word_apart, word_among, run_among, word_all}
 use Rattle.flash.proofs.Same.{same_flash}
 use Rattle.image.proofs.Checks.{Accepted, complete}
@@ -112,7 +112,7 @@ module _ (g : Geometry) (f : Fits (image_length g.blocks g.pages) g) where
   unfolding blank_image image_flash
   blank_is =
       let k = complete (all_patched ones numbers) g.blocks g.pages g.life blank_accepted in
-      (k, ap (λ x. image_in (all_patched ones numbers) (geometry_by x)) k ∙ blank_means)
+      (k, ap (λ x. chip_flash (all_patched ones numbers) (geometry_by x)) k ∙ blank_means)
 
 -- The check of bytes that state a geometry is a matter of their length.
 module _ (bs : List ℕ) where

@@ -1,11 +1,9 @@
-use Rattle.std.proofs.Common.{refl}
-use Rattle.flash.proofs.Chips.{made_chip, chip_proper}
+use Rattle.std.proofs.Common.{sym, rules}
+use Rattle.flash.proofs.Chips.{means, chip_proper}
 use Rattle.flash.proofs.chip.ImageChip.new.Goals as goal
 
-pub returns : goal.returns
-returns c = record {
-  bytes = refl;
-  geometry = c.geometry_of-geometry.ensures;
-  proper = chip_proper c.args.bytes.now c.geometry_of-geometry.result;
-  means = made_chip c.args.bytes.now c.geometry_of-geometry.result c.geometry_of-geometry.ensures;
-}
+pub returns-clause-means : goal.returns-clause-means
+returns-clause-means c = sym (means c.args.bytes.now c.ok-geometry.result (search rules))
+
+pub returns-clause-proper : goal.returns-clause-proper
+returns-clause-proper c = chip_proper c.args.bytes.now c.ok-geometry.result (search rules)
