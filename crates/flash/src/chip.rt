@@ -28,7 +28,7 @@ pub struct ImageChip<'a> {
     ghost image: { geometry ≡ geometry_by (checked bytes.now) } by { Coded-set geometry-code geometry (geometry_by (checked bytes.now)) },
 }
 
-// Where the parts of a page, or of the first page of a run, lie in an image.
+// Where the parts of a page, or of some pages from it on, lie in an image.
 #[derive(Clone, Copy)]
 struct Places {
     sector: usize,
@@ -36,29 +36,21 @@ struct Places {
     bytes: usize,
 }
 
-// The places of a page of all, or of the end of the pages.
-fn page_places(geometry: Geometry, index: usize) -> Places
-    requires { (index ≤ geometry.blocks * geometry.pages) × ((geometry.blocks ≤ 4096) × (geometry.pages ≤ 64)) }
-    ensures sector { result.sector ≡ sector_place geometry.blocks index }
-    ensures stamp { result.stamp ≡ stamp_place geometry.blocks geometry.pages index }
-    ensures bytes { result.bytes ≡ bytes_place geometry.blocks geometry.pages index }
+fn page_places(geometry: Geometry, block: Block, page: PageOffset) -> Places
+    requires there { (block.0 < geometry.blocks) × (page.0 < geometry.pages) }
+    requires few { (geometry.blocks ≤ 4096) × (geometry.pages ≤ 64) }
+    ensures sector { result.sector ≡ sector_place geometry.blocks (block.0 * geometry.pages + page.0) }
+    ensures stamp { result.stamp ≡ stamp_place geometry.blocks geometry.pages (block.0 * geometry.pages + page.0) }
+    ensures bytes { result.bytes ≡ bytes_place geometry.blocks geometry.pages (block.0 * geometry.pages + page.0) }
 {
     let counts = 4 * geometry.blocks as usize;
     let all = geometry.blocks as usize * geometry.pages as usize;
+    let index = block.0 as usize * geometry.pages as usize + page.0 as usize;
     Places {
         sector: 24 + counts + 4 * index,
         stamp: 28 + counts + 4 * all + 4 * index,
         bytes: 32 + counts + 8 * all + SECTOR_SIZE * index,
     }
-}
-
-// Which page of all a page of a block is.
-fn page_index(geometry: Geometry, block: Block, page: PageOffset) -> usize
-    requires { (block.0 < geometry.blocks) × ((page.0 < geometry.pages) × ((geometry.blocks ≤ 4096) × (geometry.pages ≤ 64))) }
-    ensures value { result ≡ block.0 * geometry.pages + page.0 }
-    ensures bound { result < geometry.blocks * geometry.pages }
-{
-    block.0 as usize * geometry.pages as usize + page.0 as usize
 }
 
 // A page's mark and bytes, each at its place.
@@ -155,7 +147,7 @@ impl<'a> Device for ImageChip<'a> {
         if buffer.len() != SECTOR_SIZE {
             return Err(Refusal::BufferNotASector);
         }
-        let at = page_places(geometry, page_index(geometry, block, page));
+        let at = page_places(geometry, block, page);
         let sector = self.number(at.sector);
         if sector == NO_SECTOR {
             buffer.fill(0xFF);
@@ -170,6 +162,7 @@ impl<'a> Device for ImageChip<'a> {
         }))
     }
 
+    #[tactic(auto, using(crate::proofs::Chips::means))]
     fn program(
         &mut self,
         block: Block,
@@ -190,7 +183,7 @@ impl<'a> Device for ImageChip<'a> {
         if bytes.len() != SECTOR_SIZE {
             return Err(Refusal::BufferNotASector);
         }
-        let at = page_places(geometry, page_index(geometry, block, page));
+        let at = page_places(geometry, block, page);
         let held = self.number(at.sector);
         if mark.sector.0 == NO_SECTOR {
             return Err(Refusal::SectorNumberReserved);
@@ -202,6 +195,7 @@ impl<'a> Device for ImageChip<'a> {
         Ok(())
     }
 
+    #[tactic(auto, using(crate::proofs::Chips::means))]
     fn erase(&mut self, block: Block) -> Result<(), Refusal>
         ensures answer { done_told result ≡ erase_answer (chip_flash self.old.bytes.now self.old.geometry) block.0 }
         ensures after { chip_flash self.new.bytes.now self.new.geometry ≡ erased (chip_flash self.old.bytes.now self.old.geometry) block.0 }
@@ -216,7 +210,7 @@ impl<'a> Device for ImageChip<'a> {
             return Err(Refusal::BlockWornOut);
         }
         let pages = geometry.pages as usize;
-        let at = page_places(geometry, block.0 as usize * pages);
+        let at = page_places(geometry, block, PageOffset(0));
         put_erased(self.bytes, count_place, count + 1, at, pages);
         Ok(())
     }

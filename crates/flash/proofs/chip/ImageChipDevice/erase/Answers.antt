@@ -1,12 +1,6 @@
 use Rattle.std.proofs.Common.{rules}
-use Rattle.flash.proofs.Chips.{stays_so, chip_count, after_erase}
+use Rattle.flash.proofs.Chips.{chip_count, after_erase}
 use Rattle.flash.proofs.chip.ImageChipDevice.erase.Goals as goal
-
-pub returns-in_err-geometry-clause-image : goal.returns-in_err-geometry-clause-image
-returns-in_err-geometry-clause-image c = stays_so _ _ c.args.self.now.image
-
-pub returns-then-count-geometry-clause-image : goal.returns-then-count-geometry-clause-image
-returns-then-count-geometry-clause-image c = stays_so _ _ c.args.self.now.image
 
 pub invariant_of-self : goal.invariant_of-self
 invariant_of-self c =

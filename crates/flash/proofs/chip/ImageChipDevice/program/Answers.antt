@@ -2,18 +2,6 @@ use Rattle.std.proofs.Common.{refl, arith, rules}
 use Rattle.flash.proofs.Chips.{stays_so, chip_blank, chip_holds, after_program}
 use Rattle.flash.proofs.chip.ImageChipDevice.program.Goals as goal
 
-pub returns-in_err-geometry-clause-image : goal.returns-in_err-geometry-clause-image
-returns-in_err-geometry-clause-image c = stays_so _ _ c.args.self.now.image
-
-pub returns-then-page-geometry-clause-image : goal.returns-then-page-geometry-clause-image
-returns-then-page-geometry-clause-image c = stays_so _ _ c.args.self.now.image
-
-pub returns-then-bytes-ne-SECTOR_SIZE-clause-image : goal.returns-then-bytes-ne-SECTOR_SIZE-clause-image
-returns-then-bytes-ne-SECTOR_SIZE-clause-image c = stays_so _ _ c.args.self.now.image
-
-pub returns-then-mark-eq-NO_SECTOR-clause-image : goal.returns-then-mark-eq-NO_SECTOR-clause-image
-returns-then-mark-eq-NO_SECTOR-clause-image c = stays_so _ _ c.args.self.now.image
-
 pub returns-then-held : goal.returns-then-held
 returns-then-held c =
     let e = chip_holds _ _ _ c.in_ok-geometry.ensures.0 c.args.self.now.image c.args.block.0 c.args.page.0 c.in_ok-geometry.ensures.2 (omega arith) (search rules) in
