@@ -83,6 +83,7 @@ fn put_erased(bytes: &mut [u8], count_place: usize, count: u32, at: Places, page
 
 impl<'a> ImageChip<'a> {
     // The chip whose image these bytes are; one without blocks where they are none.
+    #[tactic(auto, using(crate::proofs::Chips::means, crate::proofs::Chips::chip_proper))]
     pub fn new(bytes: &'a mut [u8]) -> ImageChip<'a>
         ensures bytes { result.bytes.now ≡ bytes.old }
         ensures geometry { result.geometry ≡ geometry_by (checked bytes.old) }
@@ -162,7 +163,7 @@ impl<'a> Device for ImageChip<'a> {
         }))
     }
 
-    #[tactic(auto, using(crate::proofs::Chips::means))]
+    #[tactic(auto, using(crate::proofs::Chips::means, crate::proofs::Chips::chip_blank, crate::proofs::Chips::chip_holds))]
     fn program(
         &mut self,
         block: Block,
@@ -195,7 +196,7 @@ impl<'a> Device for ImageChip<'a> {
         Ok(())
     }
 
-    #[tactic(auto, using(crate::proofs::Chips::means))]
+    #[tactic(auto, using(crate::proofs::Chips::means, crate::proofs::Chips::chip_count))]
     fn erase(&mut self, block: Block) -> Result<(), Refusal>
         ensures answer { done_told result ≡ erase_answer (chip_flash self.old.bytes.now self.old.geometry) block.0 }
         ensures after { chip_flash self.new.bytes.now self.new.geometry ≡ erased (chip_flash self.old.bytes.now self.old.geometry) block.0 }

@@ -12,8 +12,3 @@ returns-clause-after c =
     let e = chip_count _ _ _ c.in_ok-geometry.ensures.0 c.args.self.now.image c.args.block.0 c.in_ok-geometry.ensures.2 in
     let a = after_erase _ _ _ c.in_ok-geometry.ensures.0 c.args.self.now.image c.args.block.0 c.in_ok-geometry.ensures.2 (search rules) in
     search rules
-
-pub returns-clause-image : goal.returns-clause-image
-returns-clause-image c =
-    let a = after_erase _ _ _ c.in_ok-geometry.ensures.0 c.args.self.now.image c.args.block.0 c.in_ok-geometry.ensures.2 (search rules) in
-    search rules
