@@ -12,7 +12,7 @@ ghost use Rattle.flash.specs.Meaning.{Proper};
 ghost use Rattle.flash.specs.Patched.{all_patched};
 ghost use Rattle.flash.specs.Stored.{Fits, geometry_by, image_flash, chip_flash, chip_programmed, chip_erased, StaysImage};
 ghost use Rattle.flash.specs.Told.{done_told};
-ghost use Rattle.image.specs.Format.{word, word_bytes, checked, sector_place, stamp_place, bytes_place};
+ghost use Rattle.image.specs.Format.{word, word_bytes, checked, count_place, sector_place, stamp_place, bytes_place};
 
 use crate::device::{Device, Mark, NO_SECTOR, Refusal, SECTOR_SIZE};
 use crate::numbers::{Block, PageOffset, Sector};
@@ -28,6 +28,13 @@ pub struct ImageChip<'a> {
     ghost image: { geometry ≡ geometry_by (checked bytes.now) } by { Coded-set geometry-code geometry (geometry_by (checked bytes.now)) },
 }
 
+// Where a block's erase count lies in an image.
+fn count_at(block: Block) -> usize
+    ensures { result ≡ count_place block.0 }
+{
+    20 + 4 * block.0 as usize
+}
+
 // Where the parts of a page, or of some pages from it on, lie in an image.
 #[derive(Clone, Copy)]
 struct Places {
@@ -36,6 +43,7 @@ struct Places {
     bytes: usize,
 }
 
+// The places of a page.
 fn page_places(geometry: Geometry, block: Block, page: PageOffset) -> Places
     requires there { (block.0 < geometry.blocks) × (page.0 < geometry.pages) }
     requires few { (geometry.blocks ≤ 4096) × (geometry.pages ≤ 64) }
@@ -67,15 +75,15 @@ fn put_page(bytes: &mut [u8], at: Places, mark: Mark, part: &[u8])
 }
 
 // A block's erase count, and all bits of the marks and bytes of its pages.
-fn put_erased(bytes: &mut [u8], count_place: usize, count: u32, at: Places, pages: usize)
+fn put_erased(bytes: &mut [u8], count_at: usize, count: u32, at: Places, pages: usize)
     requires few { pages ≤ 64 }
-    requires count { count_place + 4 ≤ length bytes.old }
+    requires count { count_at + 4 ≤ length bytes.old }
     requires sector { at.sector + 4 * pages ≤ length bytes.old }
     requires stamp { at.stamp + 4 * pages ≤ length bytes.old }
     requires part { at.bytes + 512 * pages ≤ length bytes.old }
-    ensures { bytes.new ≡ all_patched bytes.old ((count_place, word_bytes count) ∷ (at.sector, replicate (4 * pages) 0xFF) ∷ (at.stamp, replicate (4 * pages) 0xFF) ∷ (at.bytes, replicate (512 * pages) 0xFF) ∷ []) }
+    ensures { bytes.new ≡ all_patched bytes.old ((count_at, word_bytes count) ∷ (at.sector, replicate (4 * pages) 0xFF) ∷ (at.stamp, replicate (4 * pages) 0xFF) ∷ (at.bytes, replicate (512 * pages) 0xFF) ∷ []) }
 {
-    put_number(bytes, count_place, count);
+    put_number(bytes, count_at, count);
     put_run(bytes, at.sector, 4 * pages, 0xFF);
     put_run(bytes, at.stamp, 4 * pages, 0xFF);
     put_run(bytes, at.bytes, SECTOR_SIZE * pages, 0xFF);
@@ -205,19 +213,18 @@ impl<'a> Device for ImageChip<'a> {
         ensures image { StaysImage self.old.bytes.now self.new.bytes.now (chip_flash self.new.bytes.now self.new.geometry) }
     {
         let geometry = self.geometry_with(block)?;
-        let count_place = 20 + 4 * block.0 as usize;
-        let count = self.number(count_place);
+        let count = self.number(count_at(block));
         if count >= geometry.life {
             return Err(Refusal::BlockWornOut);
         }
         let pages = geometry.pages as usize;
         let at = page_places(geometry, block, PageOffset(0));
-        put_erased(self.bytes, count_place, count + 1, at, pages);
+        put_erased(self.bytes, count_at(block), count + 1, at, pages);
         Ok(())
     }
 
     fn count(&self, block: Block) -> Result<u32, Refusal> {
         self.geometry_with(block)?;
-        Ok(self.number(20 + 4 * block.0 as usize))
+        Ok(self.number(count_at(block)))
     }
 }

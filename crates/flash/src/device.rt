@@ -10,11 +10,12 @@ ghost use Rattle.flash.specs.Meaning.{Flash};
 ghost use Rattle.flash.specs.Told.{refusal_number, refusal_text, read_told, done_told, count_told};
 
 use crate::numbers::{Block, PageOffset, Sector};
+use image::shape::PAGE_SIZE;
 use std::error::Error;
 use std::fmt;
 
 // The bytes of a page, which are those of a sector.
-pub const SECTOR_SIZE: usize = 512;
+pub const SECTOR_SIZE: usize = PAGE_SIZE;
 
 // The sector number that no page can be programmed with.
 pub const NO_SECTOR: u32 = 0xFFFF_FFFF;
