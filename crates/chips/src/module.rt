@@ -9,10 +9,20 @@ use flash::device::Device;
 use flash::join::Join;
 use flash::numbers::Block;
 use flash::window::Window;
+use image::shape::Geometry;
 
-pub const LEFT_BLOCKS: u32 = 4;
+// The chip of which the module shows all blocks, and the one of which it shows all but the first.
+pub const LEFT: Geometry = Geometry {
+    blocks: 4,
+    pages: 4,
+    life: 100,
+};
 
-pub const RIGHT_BLOCKS: u32 = 5;
+pub const RIGHT: Geometry = Geometry { blocks: 5, ..LEFT };
+
+pub const LEFT_BLOCKS: u32 = LEFT.blocks;
+
+pub const RIGHT_BLOCKS: u32 = RIGHT.blocks;
 
 // One device and 4 blocks, from block 1 on, of another, as one.
 pub fn two_chips<First: Device, Second: Device>(

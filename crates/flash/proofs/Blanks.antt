@@ -7,7 +7,7 @@ use Rattle.std.proofs.lemmas.Bool.Decides.{nat_tests}
 use Rattle.flash.specs.BlankImage.{blank_patches, blank_image, blank_flash, planned, room_checked, States, Verdict}
 use Rattle.flash.specs.Meaning.{blank}
 use Rattle.flash.specs.Patched.{all_patched}
-use Rattle.flash.specs.Stored.{page_at, image_in, geometry_by, image_flash, Fits}
+use Rattle.flash.specs.Stored.{page_at, image_in, chip_flash, geometry_by, image_flash, Fits}
 use Rattle.flash.proofs.Patches.{Within, Rising, Has, length_all, word_apart, word_among, run_among, word_all}
 use Rattle.flash.proofs.Same.{same_flash}
 use Rattle.image.proofs.Checks.{Accepted, section_found, ranged_found, sound_in, complete_in, complete}
@@ -94,7 +94,7 @@ module _ (g : Geometry) (f : Fits (image_length g.blocks g.pages) g) where
   unfolding blank_image image_flash
   blank_is =
       let k = complete (all_patched ones numbers) g.blocks g.pages g.life blank_accepted in
-      (k, ap (λ x. image_in (all_patched ones numbers) (geometry_by x)) k ∙ blank_means)
+      (k, ap (λ x. chip_flash (all_patched ones numbers) (geometry_by x)) k ∙ blank_means)
 
 shape_then : (x : Placed) (next : ℕ → Checked) (rest : ℕ → ℕ → ℕ → Checked) → with_shape (and_then x next) rest ≡ and_then x (λ n. with_shape (next n) rest)
 shape_then (placed n) next rest = refl

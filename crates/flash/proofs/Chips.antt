@@ -1,29 +1,13 @@
 -- A change of an image's bytes is that change of the device that they mean, and leaves them an image.
-use Rattle.std.proofs.Common.{◌≡◌, ℕ, ◌+◌, ◌*◌, ◌/◌, ◌%◌, ◌^◌, ◌<◌, ◌≤◌, Bool, true, false, cond, ◌&&◌, eqb, ltb, List, [], ◌∷◌, length, take, drop, replicate, sym, refl, ap, ◌∙◌, subst, ⊎_elim, mul-le-mul_right, add-mul, arith, length-drop, length-take}
+use Rattle.std.proofs.Common.{◌≡◌, ℕ, ◌+◌, ◌*◌, ◌/◌, ◌%◌, ◌^◌, ◌<◌, ◌≤◌, Bool, true, false, cond, ◌&&◌, eqb, ltb, List, [], ◌∷◌, length, take, drop, replicate, Some, None, Option, sym, refl, ap, ◌∙◌, ⊎_elim, mul-le-mul_right, add-mul, arith, length-drop, length-take}
 use lib.ListN.{length-replicate}
 use Rattle.std.proofs.lemmas.Nat.{div-mul-add, mod-mul-add, mul-add-lt}
 use Rattle.std.proofs.lemmas.Bool.{cases_eq, cases_lt, cases_order}
 use Rattle.std.proofs.lemmas.Bool.Decides.{nat_tests, eqb_tells}
-use Rattle.flash.specs.Meaning.{Page, blank, holds, WellHeld, Proper}
+use Rattle.flash.specs.Meaning.{Flash, Page, blank, holds, WellHeld, Proper}
 use Rattle.flash.specs.Calls.{with_page, with_erased}
 use Rattle.flash.specs.Patched.{patched, all_patched}
-use Rattle.flash.specs.Stored.{
-  page_at,
-  image_of,
-  image_in,
-  nothing,
-  geometry_by,
-  image_flash,
-  in_shape,
-  shape_of,
-  chip_flash,
-  image_programmed,
-  image_erased,
-  chip_programmed,
-  chip_erased,
-  Fits,
-  StaysImage,
-}
+use Rattle.flash.specs.Stored.{page_at, image_of, image_in, chip_flash, geometry_by, image_flash, image_programmed, image_erased, Fits, StaysImage}
 use Rattle.flash.proofs.Patches.{Within, Apart, length_patched, length_all, word_apart, part_apart, word_put, run_put, part_put}
 use Rattle.flash.proofs.Same.{same_flash}
 use Rattle.image.proofs.Checks.{Accepted, sound, complete}
@@ -130,11 +114,6 @@ module _ (bs : List ℕ) (b p l : ℕ) (long : length bs ≡ image_length b p) w
         part_put (patched bs₁ (stamp_place b p n) (word_bytes t)) [] tt (bytes_place b p n) 512 ys (omega arith) whole tt in
         rw (x, y, z) (grind (arith, nat_tests))
 
-  pub programmed_long : (c o s t : ℕ) (ys : List ℕ) → c < b → o < p → length ys ≡ 512 → length (image_programmed bs b p (c * p + o) s t ys) ≡ length bs
-  programmed_long c o s t ys h k w =
-      let q : c * p + o < b * p = omega (arith, mul-add-lt c p o b h k) in
-      length_all bs (on_page (c * p + o) s t ys q w) (page_within (c * p + o) s t ys q w)
-
   pub programmed_clear : (c o s t : ℕ) (ys : List ℕ) → c < b → o < p → length ys ≡ 512 → Accepted (in_bytes bs) b p l → Accepted (in_bytes (image_programmed bs b p (c * p + o) s t ys)) b p l
   programmed_clear c o s t ys h k w a =
       let q : c * p + o < b * p = omega (arith, mul-add-lt c p o b h k) in
@@ -227,9 +206,6 @@ module _ (bs : List ℕ) (b p l : ℕ) (long : length bs ≡ image_length b p) w
         (λ m. omega arith, (λ m. omega arith, (λ m. let q = out (omega arith) in omega arith, (λ m. omega arith, tt))))
         (λ m. omega arith, (λ m. omega arith, (λ m. omega arith, (λ m. let q = out (omega arith) in omega arith, tt))))
 
-  pub erased_long : (c : ℕ) → c < b → word bs (count_place c) + 1 < 2 ^ 32 → length (image_erased bs b p c) ≡ length bs
-  erased_long c h few = length_all bs (on_block c h few) (block_within c h few)
-
   pub erased_clear : (c : ℕ) → c < b → word bs (count_place c) + 1 < 2 ^ 32 → Accepted (in_bytes bs) b p l → Accepted (in_bytes (image_erased bs b p c)) b p l
   erased_clear c h few a = still_accepted (on_block c h few) (block_clear c h few) a
 
@@ -261,127 +237,93 @@ module _ (bs : List ℕ) (b p l : ℕ) (long : length bs ≡ image_length b p) w
       (λ (e : b ≤ d). grind (arith, nat_tests))
       (cases_lt d b))
 
-shape_fits : (n : ℕ) (g : Geometry) → in_shape n g.blocks g.pages g.life ≡ true → Fits n g
-shape_fits n g e = record {
-  long = grind (arith, nat_tests);
-  some_blocks = grind (arith, nat_tests);
-  most_blocks = grind (arith, nat_tests);
-  some_pages = grind (arith, nat_tests);
-  most_pages = grind (arith, nat_tests);
-  some_life = grind (arith, nat_tests);
-  most_life = grind (arith, nat_tests);
+-- bytes of which the check says a geometry are an image of it
+known_accepted : (x : Checked) (g : Geometry) → Some g ≡ geometry_by x → x ≡ accepted g.blocks g.pages g.life
+known_accepted (accepted b p l) g e =
+    let i : g.blocks ≡ b = ap (λ o. (chip_flash [] o).blocks) e in
+    let j : g.pages ≡ p = ap (λ o. (chip_flash [] o).pages) e in
+    let k : g.life ≡ l = ap (λ o. (chip_flash [] o).life) e in
+    rw (i, j, k)
+known_accepted (faulty m s k) g e = absurd cc
+
+accepted_fits : (bs : List ℕ) (g : Geometry) → Accepted (in_bytes bs) g.blocks g.pages g.life → Fits (length bs) g
+accepted_fits bs g a = record {
+  long = a.long;
+  some_blocks = a.b_low;
+  most_blocks = a.b_high;
+  some_pages = a.p_low;
+  most_pages = a.p_high;
+  some_life = a.l_low;
+  most_life = a.l_high;
 }
 
-fits_shape : (n : ℕ) (g : Geometry) → Fits n g → shape_of n g ≡ g
-unfolding shape_of
-fits_shape n g f = let e : in_shape n g.blocks g.pages g.life ≡ true = grind (arith, nat_tests) in rw e
+-- the chip means what its bytes mean
+pub means : (bs : List ℕ) (o : Option Geometry) → o ≡ geometry_by (checked bs) → image_flash bs ≡ chip_flash bs o
+unfolding image_flash
+means bs o own = ap (chip_flash bs) (sym own)
 
--- what the chip's own question for its geometry answers
-pub shape_told : (bs : List ℕ) (g : Geometry) → in_shape (length bs) g.blocks g.pages g.life ≡ true →
-    (chip_flash bs g ≡ image_in bs g) × Fits (length bs) g
-unfolding chip_flash
-shape_told bs g e = let f = shape_fits (length bs) g e in (ap (image_in bs) (fits_shape (length bs) g f), f)
+pub stays_so : (bs : List ℕ) (o : Option Geometry) → o ≡ geometry_by (checked bs) → StaysImage bs bs (chip_flash bs o)
+stays_so bs o own = (refl, means bs o own)
 
-pub shape_untold : (bs : List ℕ) (g : Geometry) → in_shape (length bs) g.blocks g.pages g.life ≡ false → chip_flash bs g ≡ image_in bs nothing
-unfolding chip_flash shape_of
-shape_untold bs g e = rw e
+-- A chip of the geometry g, whose bytes are its image.
+module _ (bs : List ℕ) (o : Option Geometry) (g : Geometry) (has : o ≡ Some g) (own : o ≡ geometry_by (checked bs)) where
+  known : checked bs ≡ accepted g.blocks g.pages g.life
+  known = known_accepted (checked bs) g (sym has ∙ own)
 
--- the geometry that the check finds fits the bytes
-checked_fits : (bs : List ℕ) (x : Checked) → checked bs ≡ x → shape_of (length bs) (geometry_by x) ≡ geometry_by x
-unfolding shape_of
-checked_fits bs (accepted b p l) e =
-    let a = sound bs b p l e in
-    fits_shape (length bs) (record { blocks = b; pages = p; life = l }) (record {
-      long = a.long;
-      some_blocks = a.b_low;
-      most_blocks = a.b_high;
-      some_pages = a.p_low;
-      most_pages = a.p_high;
-      some_life = a.l_low;
-      most_life = a.l_high;
-    })
-checked_fits bs (faulty m s k) e = refl
+  is_accepted : Accepted (in_bytes bs) g.blocks g.pages g.life
+  is_accepted = sound bs g.blocks g.pages g.life known
 
-pub made_chip : (bs : List ℕ) (g : Geometry) → g ≡ geometry_by (checked bs) → chip_flash bs g ≡ image_flash bs
-unfolding chip_flash image_flash
-made_chip bs g e = ap (λ x. image_in bs (shape_of (length bs) x)) e ∙ ap (image_in bs) (checked_fits bs (checked bs) refl)
+  pub fits : Fits (length bs) g
+  fits = accepted_fits bs g is_accepted
 
--- A chip that was told the geometry g, and finds it to be r.
-module _ (bs : List ℕ) (g r : Geometry) (own : r ≡ g) (f : Fits (length bs) r) where
-  chip_is : (bs' : List ℕ) → length bs' ≡ length bs → chip_flash bs' g ≡ image_in bs' r
-  unfolding chip_flash
-  chip_is bs' e = ap (image_in bs') (ap (λ n. shape_of n g) e ∙ ap (shape_of (length bs)) (sym own) ∙ fits_shape (length bs) r f)
+  here : (bs' : List ℕ) → chip_flash bs' o ≡ image_in bs' g
+  here bs' = ap (chip_flash bs') has
 
-  here : chip_flash bs g ≡ image_in bs r
-  here = chip_is bs refl
+  pub chip_count : (c : ℕ) → c < g.blocks → (chip_flash bs o).count c ≡ word bs (count_place c)
+  chip_count c h = ap (λ x. x.count c) (here bs) ∙ grind (arith, nat_tests)
 
-  pub chip_count : (c : ℕ) → c < r.blocks → (chip_flash bs g).count c ≡ word bs (count_place c)
-  chip_count c h = ap (λ x. x.count c) here ∙ grind (arith, nat_tests)
+  chip_page : (c i : ℕ) → c < g.blocks → i < g.pages → (chip_flash bs o).page c i ≡ page_at bs g.blocks g.pages (c * g.pages + i)
+  chip_page c i h k = ap (λ x. x.page c i) (here bs) ∙ grind (arith, nat_tests)
 
-  chip_page : (c o : ℕ) → c < r.blocks → o < r.pages → (chip_flash bs g).page c o ≡ page_at bs r.blocks r.pages (c * r.pages + o)
-  chip_page c o h k = ap (λ x. x.page c o) here ∙ grind (arith, nat_tests)
-
-  pub chip_blank : (c o : ℕ) → c < r.blocks → o < r.pages → word bs (sector_place r.blocks (c * r.pages + o)) ≡ 0xFFFFFFFF →
-      (chip_flash bs g).page c o ≡ blank
+  pub chip_blank : (c i : ℕ) → c < g.blocks → i < g.pages → word bs (sector_place g.blocks (c * g.pages + i)) ≡ 0xFFFFFFFF →
+      (chip_flash bs o).page c i ≡ blank
   unfolding page_at
-  chip_blank c o h k e = chip_page c o h k ∙ rw e
+  chip_blank c i h k e = chip_page c i h k ∙ rw e
 
-  pub chip_holds : (c o : ℕ) → c < r.blocks → o < r.pages → (word bs (sector_place r.blocks (c * r.pages + o)) ≡ 0xFFFFFFFF → ⊥) →
-      (chip_flash bs g).page c o
-      ≡ holds (word bs (sector_place r.blocks (c * r.pages + o))) (word bs (stamp_place r.blocks r.pages (c * r.pages + o)))
-      (take 512 (drop (bytes_place r.blocks r.pages (c * r.pages + o)) bs))
+  pub chip_holds : (c i : ℕ) → c < g.blocks → i < g.pages → (word bs (sector_place g.blocks (c * g.pages + i)) ≡ 0xFFFFFFFF → ⊥) →
+      (chip_flash bs o).page c i
+      ≡ holds (word bs (sector_place g.blocks (c * g.pages + i))) (word bs (stamp_place g.blocks g.pages (c * g.pages + i)))
+      (take 512 (drop (bytes_place g.blocks g.pages (c * g.pages + i)) bs))
   unfolding page_at
-  chip_holds c o h k ne = chip_page c o h k ∙ grind (arith, nat_tests)
+  chip_holds c i h k ne = chip_page c i h k ∙ grind (arith, nat_tests)
 
-  -- bytes that mean what the chip means are accepted with its geometry
-  geometry_known : (x : Checked) → image_in bs (geometry_by x) ≡ image_in bs r → x ≡ accepted r.blocks r.pages r.life
-  geometry_known (accepted b p l) e =
-      let i : b ≡ r.blocks = ap (λ z. z.blocks) e in
-      let j : p ≡ r.pages = ap (λ z. z.pages) e in
-      let k : l ≡ r.life = ap (λ z. z.life) e in
-      rw (i, j, k)
-  geometry_known (faulty m s k) e = let z : 0 ≡ r.blocks = ap (λ z. z.blocks) e in absurd (omega arith)
+  -- Bytes in which a change has kept the image.
+  pub record Changed (bs' : List ℕ) (f : Flash) : Type 0 where
+    pub after : chip_flash bs' o ≡ f
+    pub image : StaysImage bs bs' (chip_flash bs' o)
+    pub keeps : o ≡ geometry_by (checked bs')
 
-  checked_known : image_flash bs ≡ chip_flash bs g → checked bs ≡ accepted r.blocks r.pages r.life
-  unfolding image_flash
-  checked_known e = geometry_known (checked bs) (e ∙ here)
+  changed : (bs' : List ℕ) (f : Flash) → image_in bs' g ≡ f → Accepted (in_bytes bs') g.blocks g.pages g.life → Changed bs' f
+  changed bs' f e a =
+      let k = complete bs' g.blocks g.pages g.life a in
+      let own' : o ≡ geometry_by (checked bs') = has ∙ sym (ap geometry_by k) in
+      record { after = here bs' ∙ e; image = (k ∙ sym known, means bs' o own'); keeps = own' }
 
-  -- a change that keeps an accepted image accepted leaves an image
-  stays : (bs' : List ℕ) → length bs' ≡ length bs →
-      (Accepted (in_bytes bs) r.blocks r.pages r.life → Accepted (in_bytes bs') r.blocks r.pages r.life) →
-      StaysImage bs (chip_flash bs g) bs' (chip_flash bs' g)
-  unfolding image_flash
-  stays bs' l keep e =
-      let k = checked_known e in
-      let k' = complete bs' r.blocks r.pages r.life (keep (sound bs r.blocks r.pages r.life k)) in
-      (k' ∙ sym k, ap (λ x. image_in bs' (geometry_by x)) k' ∙ sym (chip_is bs' l))
+  pub after_program : (c i s t : ℕ) (ys : List ℕ) → c < g.blocks → i < g.pages → s < 2 ^ 32 → t < 2 ^ 32 → length ys ≡ 512 → (s ≡ 0xFFFFFFFF → ⊥) →
+      Changed (image_programmed bs g.blocks g.pages (c * g.pages + i) s t ys) (with_page (chip_flash bs o) c i (holds s t ys))
+  after_program c i s t ys h k u v w ne =
+      changed _ _
+      (programmed_image bs g.blocks g.pages g.life fits.long c i s t ys h k u v w ne ∙ ap (λ x. with_page x c i (holds s t ys)) (sym (here bs)))
+      (programmed_clear bs g.blocks g.pages g.life fits.long c i s t ys h k w is_accepted)
 
-  pub after_program : (c o s t : ℕ) (ys : List ℕ) → c < r.blocks → o < r.pages → s < 2 ^ 32 → t < 2 ^ 32 → length ys ≡ 512 → (s ≡ 0xFFFFFFFF → ⊥) →
-      (chip_programmed bs r c o s t ys ≡ chip_programmed bs g c o s t ys)
-      × (chip_flash (chip_programmed bs r c o s t ys) g ≡ with_page (chip_flash bs g) c o (holds s t ys))
-      × StaysImage bs (chip_flash bs g) (chip_programmed bs r c o s t ys) (chip_flash (chip_programmed bs r c o s t ys) g)
-  after_program c o s t ys h k u v w ne =
-      let l = programmed_long bs r.blocks r.pages r.life f.long c o s t ys h k w in (
-        ap (λ x. chip_programmed bs x c o s t ys) own,
-        chip_is (chip_programmed bs r c o s t ys) l
-            ∙ programmed_image bs r.blocks r.pages r.life f.long c o s t ys h k u v w ne
-            ∙ ap (λ x. with_page x c o (holds s t ys)) (sym here),
-        stays (chip_programmed bs r c o s t ys) l (programmed_clear bs r.blocks r.pages r.life f.long c o s t ys h k w),
-      )
-
-  pub after_erase : (c : ℕ) → c < r.blocks → word bs (count_place c) < r.life →
-      (chip_erased bs r c ≡ chip_erased bs g c)
-      × (chip_flash (chip_erased bs r c) g ≡ with_erased (chip_flash bs g) c)
-      × StaysImage bs (chip_flash bs g) (chip_erased bs r c) (chip_flash (chip_erased bs r c) g)
+  pub after_erase : (c : ℕ) → c < g.blocks → word bs (count_place c) < g.life →
+      Changed (image_erased bs g.blocks g.pages c) (with_erased (chip_flash bs o) c)
   after_erase c h k =
+      let f = fits in
       let few : word bs (count_place c) + 1 < 2 ^ 32 = omega arith in
-      let l = erased_long bs r.blocks r.pages r.life f.long c h few in (
-        ap (λ x. chip_erased bs x c) own,
-        chip_is (chip_erased bs r c) l
-            ∙ erased_image bs r.blocks r.pages r.life f.long c h few
-            ∙ ap (λ x. with_erased x c) (sym here),
-        stays (chip_erased bs r c) l (erased_clear bs r.blocks r.pages r.life f.long c h few),
-      )
+      changed _ _
+      (erased_image bs g.blocks g.pages g.life f.long c h few ∙ ap (λ x. with_erased x c) (sym (here bs)))
+      (erased_clear bs g.blocks g.pages g.life f.long c h few is_accepted)
 
 -- what an image means is proper
 mark_held : (x : Bool) (s t : ℕ) (ys : List ℕ) → (x ≡ false → s ≡ 0xFFFFFFFF → ⊥) → length ys ≡ 512 → WellHeld (cond x blank (holds s t ys))
@@ -410,11 +352,6 @@ image_proper bs b p l long = record {
       page_held bs b p (c * p + i) (long (omega arith)) (omega (arith, mul-add-lt c p i b h k)));
 }
 
-proper_by : (bs : List ℕ) (g : Geometry) (x : Bool) → in_shape (length bs) g.blocks g.pages g.life ≡ x → Proper (chip_flash bs g)
-proper_by bs g true e =
-    let t = shape_told bs g e in
-    subst Proper (sym t.0) (image_proper bs g.blocks g.pages g.life (λ _. t.1.long))
-proper_by bs g false e = subst Proper (sym (shape_untold bs g e)) (image_proper bs 0 0 0 (λ h. absurd (omega arith)))
-
-pub chip_proper : (bs : List ℕ) (g : Geometry) → Proper (chip_flash bs g)
-chip_proper bs g = proper_by bs g (in_shape (length bs) g.blocks g.pages g.life) refl
+pub chip_proper : (bs : List ℕ) (o : Option Geometry) → o ≡ geometry_by (checked bs) → Proper (chip_flash bs o)
+chip_proper bs None e = image_proper bs 0 0 0 (λ h. absurd (omega arith))
+chip_proper bs (Some g) e = let f = fits bs (Some g) g refl e in image_proper bs g.blocks g.pages g.life (λ _. f.long)

@@ -1,8 +1,6 @@
 pub mod Same
 pub mod Joins
 pub mod Windows
-pub mod Properly
-pub mod Readbacks
 pub mod Rejoined
 pub mod Patches
 pub mod Chips

@@ -1,4 +1,4 @@
--- A join with an empty side is the other side, and windows that split a device make it again.
+-- Two windows that split a device make it again.
 use Rattle.std.proofs.Common.{◌≡◌, ℕ, ◌+◌, ◌-◌, ◌<◌, ◌≤◌, ⊎_elim, arith}
 use Rattle.std.proofs.lemmas.Bool.{cases_lt}
 use Rattle.std.proofs.lemmas.Bool.Decides.{nat_tests}
@@ -7,26 +7,6 @@ use Rattle.flash.specs.Laws.{Rejoins}
 use Rattle.flash.specs.Meaning.{Flash, Proper}
 use Rattle.flash.specs.Windowed.{windowed, windowed_blocks}
 use Rattle.flash.proofs.Same.{same_flash}
-
-pub without_first : (f g : Flash) → Proper g → f.blocks ≡ 0 → g.blocks ≤ 65536 → joined f g ≡ g
-without_first f g p e h =
-    same_flash _ _ (grind (arith, nat_tests)) (grind (arith, nat_tests)) (grind (arith, nat_tests))
-    (λ c. let z : c - f.blocks ≡ c = omega arith in
-    ⊎_elim (λ (k : c < g.blocks). rw z (grind (arith, nat_tests))) (λ k. let n = p.no_count c k in grind (arith, nat_tests)) (cases_lt c g.blocks))
-    (λ c i. let z : c - f.blocks ≡ c = omega arith in
-    ⊎_elim
-    (λ (k : c < g.blocks). ⊎_elim (λ (l : i < g.pages). rw z (grind (arith, nat_tests))) (λ l. let n = p.no_page c i l in grind (arith, nat_tests)) (cases_lt i g.pages))
-    (λ k. let n = p.no_block c i k in grind (arith, nat_tests))
-    (cases_lt c g.blocks))
-
-pub without_second : (f g : Flash) → Proper f → g.blocks ≡ 0 → 0 < f.blocks → f.blocks ≤ 65536 → joined f g ≡ f
-without_second f g p e some h =
-    same_flash _ _ (grind (arith, nat_tests)) (grind (arith, nat_tests)) (grind (arith, nat_tests))
-    (λ c. ⊎_elim (λ k. grind (arith, nat_tests)) (λ k. let n = p.no_count c k in grind (arith, nat_tests)) (cases_lt c f.blocks))
-    (λ c i. ⊎_elim
-    (λ k. ⊎_elim (λ l. grind (arith, nat_tests)) (λ l. let n = p.no_page c i l in grind (arith, nat_tests)) (cases_lt i f.pages))
-    (λ k. let n = p.no_block c i k in grind (arith, nat_tests))
-    (cases_lt c f.blocks))
 
 module _ (f : Flash) (k n : ℕ) (p : Proper f) (h : f.blocks ≤ 65536) (far : f.blocks ≤ k + n) where
   split_count : (c : ℕ) → (joined (windowed f 0 k) (windowed f k n)).count c ≡ f.count c

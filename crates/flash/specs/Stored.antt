@@ -1,8 +1,7 @@
 -- What the bytes of an image mean as a device, and which of them a program and an erase change.
-use Rattle.std.specs.Prelude.{◌≡◌, ℕ, ◌+◌, ◌*◌, ◌≤◌, Bool, cond, ◌&&◌, List, [], ◌∷◌, length, take, drop, replicate, ◌==◌, nat_lt}
+use Rattle.std.specs.Prelude.{◌≡◌, ℕ, ◌+◌, ◌*◌, ◌≤◌, cond, ◌&&◌, List, [], ◌∷◌, take, drop, replicate, Some, None, Option, ◌==◌, nat_lt}
 use Rattle.flash.specs.Meaning.{Page, blank, holds, Flash}
 use Rattle.flash.specs.Patched.{all_patched}
-use Rattle.image.specs.Shape.{ranged}
 use Rattle.image.specs.declared.shape.Geometry.{Geometry}
 use Rattle.image.specs.Format.{
   word,
@@ -37,31 +36,21 @@ image_of bs b p l = record {
 abbrev pub image_in : List ℕ → Geometry → Flash
 image_in bs g = image_of bs g.blocks g.pages g.life
 
-abbrev pub nothing : Geometry
-nothing = record { blocks = 0; pages = 0; life = 0 }
+-- What bytes mean to a chip of this geometry; without one they are no image, and mean a device without blocks, pages and life.
+abbrev pub chip_flash : List ℕ → Option Geometry → Flash
+chip_flash bs None = image_of bs 0 0 0
+chip_flash bs (Some g) = image_in bs g
 
 -- The geometry that the check finds, and none where it refuses the bytes.
-abbrev pub geometry_by : Checked → Geometry
-geometry_by (accepted b p l) = record { blocks = b; pages = p; life = l }
-geometry_by (faulty m s k) = nothing
+abbrev pub geometry_by : Checked → Option Geometry
+geometry_by (accepted b p l) = Some (record { blocks = b; pages = p; life = l })
+geometry_by (faulty m s k) = None
 
 -- What bytes mean: the device that they are the image of, and one without blocks, pages and life where the check refuses them.
 unfoldable pub image_flash : List ℕ → Flash
-image_flash bs = image_in bs (geometry_by (checked bs))
+image_flash bs = chip_flash bs (geometry_by (checked bs))
 
--- Whether n bytes can be the image of b blocks, p pages and the life l.
-abbrev pub in_shape : ℕ → ℕ → ℕ → ℕ → Bool
-in_shape n b p l = ranged b p l && image_length b p == n
-
--- The geometry that n bytes have, to a chip that was told g: nothing where g cannot be theirs.
-unfoldable pub shape_of : ℕ → Geometry → Geometry
-shape_of n g = cond (in_shape n g.blocks g.pages g.life) g nothing
-
--- What bytes mean to a chip that was told their geometry once, and does not read it again.
-unfoldable pub chip_flash : List ℕ → Geometry → Flash
-chip_flash bs g = image_in bs (shape_of (length bs) g)
-
--- The geometry g of a chip that does fit its n bytes.
+-- The n bytes of an image have its geometry g.
 pub record Fits (n : ℕ) (g : Geometry) : Type 0 where
   pub long : n ≡ image_length g.blocks g.pages
   pub some_blocks : 1 ≤ g.blocks
@@ -87,12 +76,14 @@ image_erased bs b p c =
     ∷ [])
 
 -- The same for page o of block c, and for block c, of a chip.
-abbrev pub chip_programmed : List ℕ → Geometry → ℕ → ℕ → ℕ → ℕ → List ℕ → List ℕ
-chip_programmed bs g c o s t ys = image_programmed bs g.blocks g.pages (c * g.pages + o) s t ys
+abbrev pub chip_programmed : List ℕ → Option Geometry → ℕ → ℕ → ℕ → ℕ → List ℕ → List ℕ
+chip_programmed bs None c o s t ys = bs
+chip_programmed bs (Some g) c o s t ys = image_programmed bs g.blocks g.pages (c * g.pages + o) s t ys
 
-abbrev pub chip_erased : List ℕ → Geometry → ℕ → List ℕ
-chip_erased bs g c = image_erased bs g.blocks g.pages c
+abbrev pub chip_erased : List ℕ → Option Geometry → ℕ → List ℕ
+chip_erased bs None c = bs
+chip_erased bs (Some g) c = image_erased bs g.blocks g.pages c
 
--- Bytes bs, which mean f, have become bs', which are to mean f': the check says the same of them.
-abbrev pub StaysImage : List ℕ → Flash → List ℕ → Flash → Type 0
-StaysImage bs f bs' f' = image_flash bs ≡ f → (checked bs' ≡ checked bs) × (image_flash bs' ≡ f')
+-- Bytes bs have become bs', which are to mean f: the check says the same of them, and they do mean it.
+abbrev pub StaysImage : List ℕ → List ℕ → Flash → Type 0
+StaysImage bs bs' f = (checked bs' ≡ checked bs) × (image_flash bs' ≡ f)

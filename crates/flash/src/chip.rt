@@ -1,39 +1,42 @@
 // A device in the caller's bytes, which are the image of a chip.
 //
-// The check of the bytes runs once, when the chip is made; from then on each call tests only that the geometry it was told can be that of
-// bytes this long, and touches no more than the page or the block that it is about. What it leaves is an image again, so the bytes
-// can be saved at any time and opened later. Bytes that the check refuses make a chip without blocks, pages and life.
-//
-// The struct has no invariant beside the borrowed bytes: it could then not lie by value in a join or a window. Its meaning is defined for
-// every geometry and all bytes instead, with no blocks where they do not fit each other.
+// The check of the bytes runs once, when the chip is made; from then on the chip keeps what it said, and each call touches no more than the page
+// or the block that it is about. What a call leaves is an image of the same geometry again, so the bytes can be saved at any time and opened
+// later. Bytes that the check refuses make a chip without blocks, pages and life.
 
-ghost use Rattle.std.specs.Prelude.{◌≡◌, ◌+◌, ◌*◌, ◌^◌, ◌<◌, ◌≤◌, List, [], ◌∷◌, length, replicate, if◌then◌else◌};
+ghost use Rattle.std.specs.Prelude.{◌≡◌, ◌+◌, ◌*◌, ◌^◌, ◌<◌, ◌≤◌, List, [], ◌∷◌, length, replicate, if◌then◌else◌, MatchResult};
+ghost use Rattle.std.specs.Coded.{Coded-set};
 ghost use Rattle.flash.specs.Calls.{accepts, program_answer, programmed, erase_answer, erased};
+ghost use Rattle.flash.specs.declared.device.Refusal.TheVariants.{NoSuchBlock};
 ghost use Rattle.flash.specs.Meaning.{Proper};
 ghost use Rattle.flash.specs.Patched.{all_patched};
-ghost use Rattle.flash.specs.Stored.{in_shape, Fits, geometry_by, image_flash, chip_flash, chip_programmed, chip_erased, StaysImage};
+ghost use Rattle.flash.specs.Stored.{Fits, geometry_by, image_flash, chip_flash, chip_programmed, chip_erased, StaysImage};
 ghost use Rattle.flash.specs.Told.{done_told};
-ghost use Rattle.image.specs.Format.{word, word_bytes, checked, sector_place, stamp_place, bytes_place};
+ghost use Rattle.image.specs.Format.{word, word_bytes, checked, count_place, sector_place, stamp_place, bytes_place};
 
 use crate::device::{Device, Mark, NO_SECTOR, Refusal, SECTOR_SIZE};
 use crate::numbers::{Block, PageOffset, Sector};
-use crate::patch::{number_at, put_bytes, put_number, put_run};
+use crate::patch::{put_bytes, put_number, put_run};
 use image::check::check;
 use image::shape::Geometry;
+use image::source::Source;
 
+// The geometry is what the check says of the bytes, now as when the chip was made.
 #[derive(Drop)]
 pub struct ImageChip<'a> {
     bytes: &'a mut [u8],
-    geometry: Geometry,
+    geometry: Option<Geometry>,
+    ghost image: { geometry ≡ geometry_by (checked bytes.now) } by { Coded-set geometry-code geometry (geometry_by (checked bytes.now)) },
 }
 
-const NOTHING: Geometry = Geometry {
-    blocks: 0,
-    pages: 0,
-    life: 0,
-};
+// Where a block's erase count lies in an image.
+fn count_at(block: Block) -> usize
+    ensures { result ≡ count_place block.0 }
+{
+    20 + 4 * block.0 as usize
+}
 
-// Where the parts of a page, or of the first page of a run, lie in an image.
+// Where the parts of a page, or of some pages from it on, lie in an image.
 #[derive(Clone, Copy)]
 struct Places {
     sector: usize,
@@ -41,48 +44,21 @@ struct Places {
     bytes: usize,
 }
 
-// The places of a page of all, or of the end of the pages.
-fn page_places(geometry: Geometry, index: usize) -> Places
-    requires { (index ≤ geometry.blocks * geometry.pages) × ((geometry.blocks ≤ 4096) × (geometry.pages ≤ 64)) }
-    ensures sector { result.sector ≡ sector_place geometry.blocks index }
-    ensures stamp { result.stamp ≡ stamp_place geometry.blocks geometry.pages index }
-    ensures bytes { result.bytes ≡ bytes_place geometry.blocks geometry.pages index }
+// The places of a page.
+fn page_places(geometry: Geometry, block: Block, page: PageOffset) -> Places
+    requires there { (block.0 < geometry.blocks) × (page.0 < geometry.pages) }
+    requires few { (geometry.blocks ≤ 4096) × (geometry.pages ≤ 64) }
+    ensures sector { result.sector ≡ sector_place geometry.blocks (block.0 * geometry.pages + page.0) }
+    ensures stamp { result.stamp ≡ stamp_place geometry.blocks geometry.pages (block.0 * geometry.pages + page.0) }
+    ensures bytes { result.bytes ≡ bytes_place geometry.blocks geometry.pages (block.0 * geometry.pages + page.0) }
 {
     let counts = 4 * geometry.blocks as usize;
     let all = geometry.blocks as usize * geometry.pages as usize;
+    let index = block.0 as usize * geometry.pages as usize + page.0 as usize;
     Places {
         sector: 24 + counts + 4 * index,
         stamp: 28 + counts + 4 * all + 4 * index,
         bytes: 32 + counts + 8 * all + SECTOR_SIZE * index,
-    }
-}
-
-// Which page of all a page of a block is.
-fn page_index(geometry: Geometry, block: Block, page: PageOffset) -> usize
-    requires { (block.0 < geometry.blocks) × ((page.0 < geometry.pages) × ((geometry.blocks ≤ 4096) × (geometry.pages ≤ 64))) }
-    ensures value { result ≡ block.0 * geometry.pages + page.0 }
-    ensures bound { result < geometry.blocks * geometry.pages }
-{
-    block.0 as usize * geometry.pages as usize + page.0 as usize
-}
-
-// Whether this many bytes can be an image of this geometry.
-fn has_shape(length: usize, geometry: Geometry) -> bool
-    ensures { result ≡ in_shape length geometry.blocks geometry.pages geometry.life }
-{
-    match geometry.image_length() {
-        Some(room) => room == length,
-        None => false,
-    }
-}
-
-// The geometry that the bytes state, and nothing where the check refuses them.
-fn geometry_of(bytes: &[u8]) -> Geometry
-    ensures { result ≡ geometry_by (checked bytes.now) }
-{
-    match check(bytes) {
-        Ok(geometry) => geometry,
-        Err(_) => NOTHING,
     }
 }
 
@@ -99,14 +75,16 @@ fn put_page(bytes: &mut [u8], at: Places, mark: Mark, part: &[u8])
     put_bytes(bytes, at.bytes, part);
 }
 
-// All bits of the marks and bytes of some pages in a row.
-fn put_blank(bytes: &mut [u8], at: Places, pages: usize)
+// A block's erase count, and all bits of the marks and bytes of its pages.
+fn put_erased(bytes: &mut [u8], count_at: usize, count: u32, at: Places, pages: usize)
     requires few { pages ≤ 64 }
+    requires count { count_at + 4 ≤ length bytes.old }
     requires sector { at.sector + 4 * pages ≤ length bytes.old }
     requires stamp { at.stamp + 4 * pages ≤ length bytes.old }
     requires part { at.bytes + 512 * pages ≤ length bytes.old }
-    ensures { bytes.new ≡ all_patched bytes.old ((at.sector, replicate (4 * pages) 0xFF) ∷ (at.stamp, replicate (4 * pages) 0xFF) ∷ (at.bytes, replicate (512 * pages) 0xFF) ∷ []) }
+    ensures { bytes.new ≡ all_patched bytes.old ((count_at, word_bytes count) ∷ (at.sector, replicate (4 * pages) 0xFF) ∷ (at.stamp, replicate (4 * pages) 0xFF) ∷ (at.bytes, replicate (512 * pages) 0xFF) ∷ []) }
 {
+    put_number(bytes, count_at, count);
     put_run(bytes, at.sector, 4 * pages, 0xFF);
     put_run(bytes, at.stamp, 4 * pages, 0xFF);
     put_run(bytes, at.bytes, SECTOR_SIZE * pages, 0xFF);
@@ -114,13 +92,14 @@ fn put_blank(bytes: &mut [u8], at: Places, pages: usize)
 
 impl<'a> ImageChip<'a> {
     // The chip whose image these bytes are; one without blocks where they are none.
+    #[tactic(auto, using(crate::proofs::Chips::means, crate::proofs::Chips::chip_proper))]
     pub fn new(bytes: &'a mut [u8]) -> ImageChip<'a>
         ensures bytes { result.bytes.now ≡ bytes.old }
         ensures geometry { result.geometry ≡ geometry_by (checked bytes.old) }
         ensures means { chip_flash result.bytes.now result.geometry ≡ image_flash bytes.old }
         ensures proper { Proper (chip_flash result.bytes.now result.geometry) }
     {
-        let geometry = geometry_of(bytes);
+        let geometry = check(bytes).ok();
         ImageChip { bytes, geometry }
     }
 
@@ -131,26 +110,23 @@ impl<'a> ImageChip<'a> {
         self.bytes
     }
 
-    // The geometry, where it can be that of the bytes.
-    fn shape(&self) -> Geometry
-        ensures blocks { result.blocks ≡ (chip_flash self.now.bytes.now self.now.geometry).blocks }
-        ensures pages { result.pages ≡ (chip_flash self.now.bytes.now self.now.geometry).pages }
-        ensures life { result.life ≡ (chip_flash self.now.bytes.now self.now.geometry).life }
-        ensures fits { 0 < result.blocks → Fits (length self.now.bytes.now) result }
-        ensures own { 0 < result.blocks → result ≡ self.now.geometry }
+    // The geometry, where the chip has this block.
+    fn geometry_with(&self, block: Block) -> Result<Geometry, Refusal>
+        ensures { MatchResult result (λ g. (self.now.geometry ≡ Some g) × Fits (length self.now.bytes.now) g × (block.0 < g.blocks)) (λ e. ((chip_flash self.now.bytes.now self.now.geometry).blocks ≤ block.0) × (e ≡ NoSuchBlock)) }
     {
-        if has_shape(self.bytes.len(), self.geometry) {
-            self.geometry
-        } else {
-            NOTHING
+        let geometry = self.geometry.ok_or(Refusal::NoSuchBlock)?;
+        if block.0 >= geometry.blocks {
+            return Err(Refusal::NoSuchBlock);
         }
+        Ok(geometry)
     }
 
     fn number(&self, at: usize) -> u32
         requires { at + 4 ≤ length self.now.bytes.now }
         ensures { result ≡ word self.now.bytes.now at }
     {
-        number_at(self.bytes, at)
+        let bytes: &[u8] = self.bytes;
+        bytes.number(at).unwrap()
     }
 }
 
@@ -158,15 +134,15 @@ impl<'a> Device for ImageChip<'a> {
     ghost flash = { λ i. chip_flash i.bytes.now i.geometry };
 
     fn blocks(&self) -> u32 {
-        self.shape().blocks
+        self.geometry.map_or(0, |geometry| geometry.blocks)
     }
 
     fn pages(&self) -> u32 {
-        self.shape().pages
+        self.geometry.map_or(0, |geometry| geometry.pages)
     }
 
     fn life(&self) -> u32 {
-        self.shape().life
+        self.geometry.map_or(0, |geometry| geometry.life)
     }
 
     fn read(
@@ -175,17 +151,14 @@ impl<'a> Device for ImageChip<'a> {
         page: PageOffset,
         buffer: &mut [u8],
     ) -> Result<Option<Mark>, Refusal> {
-        let shape = self.shape();
-        if block.0 >= shape.blocks {
-            return Err(Refusal::NoSuchBlock);
-        }
-        if page.0 >= shape.pages {
+        let geometry = self.geometry_with(block)?;
+        if page.0 >= geometry.pages {
             return Err(Refusal::NoSuchPage);
         }
         if buffer.len() != SECTOR_SIZE {
             return Err(Refusal::BufferNotASector);
         }
-        let at = page_places(shape, page_index(shape, block, page));
+        let at = page_places(geometry, block, page);
         let sector = self.number(at.sector);
         if sector == NO_SECTOR {
             buffer.fill(0xFF);
@@ -200,6 +173,7 @@ impl<'a> Device for ImageChip<'a> {
         }))
     }
 
+    #[tactic(auto, using(crate::proofs::Chips::means, crate::proofs::Chips::chip_blank, crate::proofs::Chips::chip_holds))]
     fn program(
         &mut self,
         block: Block,
@@ -211,19 +185,16 @@ impl<'a> Device for ImageChip<'a> {
         ensures after { chip_flash self.new.bytes.now self.new.geometry ≡ programmed (chip_flash self.old.bytes.now self.old.geometry) block.0 page.0 mark.sector.0 mark.stamp bytes.now }
         ensures bytes { self.new.bytes.now ≡ (if accepts (done_told result) then chip_programmed self.old.bytes.now self.old.geometry block.0 page.0 mark.sector.0 mark.stamp bytes.now else self.old.bytes.now) }
         ensures geometry { self.new.geometry ≡ self.old.geometry }
-        ensures image { StaysImage self.old.bytes.now (chip_flash self.old.bytes.now self.old.geometry) self.new.bytes.now (chip_flash self.new.bytes.now self.new.geometry) }
+        ensures image { StaysImage self.old.bytes.now self.new.bytes.now (chip_flash self.new.bytes.now self.new.geometry) }
     {
-        let shape = self.shape();
-        if block.0 >= shape.blocks {
-            return Err(Refusal::NoSuchBlock);
-        }
-        if page.0 >= shape.pages {
+        let geometry = self.geometry_with(block)?;
+        if page.0 >= geometry.pages {
             return Err(Refusal::NoSuchPage);
         }
         if bytes.len() != SECTOR_SIZE {
             return Err(Refusal::BufferNotASector);
         }
-        let at = page_places(shape, page_index(shape, block, page));
+        let at = page_places(geometry, block, page);
         let held = self.number(at.sector);
         if mark.sector.0 == NO_SECTOR {
             return Err(Refusal::SectorNumberReserved);
@@ -235,33 +206,27 @@ impl<'a> Device for ImageChip<'a> {
         Ok(())
     }
 
+    #[tactic(auto, using(crate::proofs::Chips::means, crate::proofs::Chips::chip_count))]
     fn erase(&mut self, block: Block) -> Result<(), Refusal>
         ensures answer { done_told result ≡ erase_answer (chip_flash self.old.bytes.now self.old.geometry) block.0 }
         ensures after { chip_flash self.new.bytes.now self.new.geometry ≡ erased (chip_flash self.old.bytes.now self.old.geometry) block.0 }
         ensures bytes { self.new.bytes.now ≡ (if accepts (done_told result) then chip_erased self.old.bytes.now self.old.geometry block.0 else self.old.bytes.now) }
         ensures geometry { self.new.geometry ≡ self.old.geometry }
-        ensures image { StaysImage self.old.bytes.now (chip_flash self.old.bytes.now self.old.geometry) self.new.bytes.now (chip_flash self.new.bytes.now self.new.geometry) }
+        ensures image { StaysImage self.old.bytes.now self.new.bytes.now (chip_flash self.new.bytes.now self.new.geometry) }
     {
-        let shape = self.shape();
-        if block.0 >= shape.blocks {
-            return Err(Refusal::NoSuchBlock);
-        }
-        let count_place = 20 + 4 * block.0 as usize;
-        let count = self.number(count_place);
-        if count >= shape.life {
+        let geometry = self.geometry_with(block)?;
+        let count = self.number(count_at(block));
+        if count >= geometry.life {
             return Err(Refusal::BlockWornOut);
         }
-        let pages = shape.pages as usize;
-        let at = page_places(shape, block.0 as usize * pages);
-        put_number(self.bytes, count_place, count + 1);
-        put_blank(self.bytes, at, pages);
+        let pages = geometry.pages as usize;
+        let at = page_places(geometry, block, PageOffset(0));
+        put_erased(self.bytes, count_at(block), count + 1, at, pages);
         Ok(())
     }
 
     fn count(&self, block: Block) -> Result<u32, Refusal> {
-        if block.0 >= self.shape().blocks {
-            return Err(Refusal::NoSuchBlock);
-        }
-        Ok(self.number(20 + 4 * block.0 as usize))
+        self.geometry_with(block)?;
+        Ok(self.number(count_at(block)))
     }
 }

@@ -10,10 +10,12 @@ ghost use Rattle.flash.specs.Meaning.{Flash};
 ghost use Rattle.flash.specs.Told.{refusal_number, refusal_text, read_told, done_told, count_told};
 
 use crate::numbers::{Block, PageOffset, Sector};
+use image::shape::PAGE_SIZE;
+use std::error::Error;
 use std::fmt;
 
 // The bytes of a page, which are those of a sector.
-pub const SECTOR_SIZE: usize = 512;
+pub const SECTOR_SIZE: usize = PAGE_SIZE;
 
 // The sector number that no page can be programmed with.
 pub const NO_SECTOR: u32 = 0xFFFF_FFFF;
@@ -28,26 +30,19 @@ pub struct Mark {
 // Why a device refuses a call. Where two reasons apply, the one that stands first here is given.
 #[derive(Clone, Copy, PartialEq, Eq, Debug)]
 pub enum Refusal {
-    NoSuchBlock,
-    NoSuchPage,
-    BufferNotASector,
-    SectorNumberReserved,
-    PageNotBlank,
-    BlockWornOut,
+    NoSuchBlock = 1,
+    NoSuchPage = 2,
+    BufferNotASector = 3,
+    SectorNumberReserved = 4,
+    PageNotBlank = 5,
+    BlockWornOut = 6,
 }
 
 impl Refusal {
     pub fn number(self) -> u32
         ensures { result ≡ refusal_number self }
     {
-        match self {
-            Refusal::NoSuchBlock => 1,
-            Refusal::NoSuchPage => 2,
-            Refusal::BufferNotASector => 3,
-            Refusal::SectorNumberReserved => 4,
-            Refusal::PageNotBlank => 5,
-            Refusal::BlockWornOut => 6,
-        }
+        self as u32
     }
 
     // The refusal in words.
@@ -69,12 +64,14 @@ impl fmt::Display for Refusal {
     ghost output = { λ x. Some (refusal_text x) };
 
     fn fmt<W: fmt::Write>(&self, f: &mut fmt::Formatter<W>) -> fmt::Result {
-        let reason = self.reason();
-        write!(f, "{reason}")
+        f.write_str(self.reason())
     }
 }
 
-// Each call answers as `Calls` says of the device's meaning, refusals too, and leaves the meaning and the buffer that it says.
+impl Error for Refusal {}
+
+// Each call answers as `Calls` says of the device's meaning, refusals too, and leaves the meaning and the buffer that it says. That the meaning
+// is `Proper` is no law here, since it would ask more of whoever implements a device: clauses that need it take it as their premise.
 pub trait Device {
     // What the device means.
     ghost flash: { Self → Flash };

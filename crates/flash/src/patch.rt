@@ -2,17 +2,7 @@
 
 ghost use Rattle.std.specs.Prelude.{◌≡◌, ◌+◌, ◌^◌, ◌<◌, ◌≤◌, List, [], ◌∷◌, length, replicate};
 ghost use Rattle.flash.specs.Patched.{patched};
-ghost use Rattle.image.specs.Format.{word, word_bytes};
-
-use image::source::Source;
-
-// The number at a byte.
-pub(crate) fn number_at(bytes: &[u8], at: usize) -> u32
-    requires { at + 4 ≤ length bytes.now }
-    ensures { result ≡ word bytes.now at }
-{
-    bytes.number(at).unwrap()
-}
+ghost use Rattle.image.specs.Format.{word_bytes};
 
 pub(crate) fn put_bytes(bytes: &mut [u8], at: usize, part: &[u8])
     requires { at + length part.now ≤ length bytes.old }

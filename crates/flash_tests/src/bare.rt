@@ -1,6 +1,8 @@
 // A device with any number of blocks that holds nothing: its blocks have no pages and no life. No image has more than 4,096 blocks, so the
 // edge of a join at 65,536 is tried with it.
 
+ghost use Rattle.std.specs.Prelude.{◌≡◌, ◌<◌, ◌≤◌, MatchResult};
+ghost use Rattle.flash.specs.declared.device.Refusal.TheVariants.{NoSuchBlock};
 ghost use Rattle.flash_tests.specs.BareFlash.{bare_flash};
 
 use flash::device::{Device, Mark, Refusal};
@@ -8,6 +10,18 @@ use flash::numbers::{Block, PageOffset};
 
 #[derive(Clone, Copy)]
 pub struct Bare(pub u32);
+
+impl Bare {
+    // That there is such a block.
+    fn shown(&self, block: Block) -> Result<(), Refusal>
+        ensures { MatchResult result (λ _. block.0 < self.now.0) (λ e. (self.now.0 ≤ block.0) × (e ≡ NoSuchBlock)) }
+    {
+        if block.0 >= self.0 {
+            return Err(Refusal::NoSuchBlock);
+        }
+        Ok(())
+    }
+}
 
 impl Device for Bare {
     ghost flash = { λ d. bare_flash d.0 };
@@ -30,9 +44,7 @@ impl Device for Bare {
         _page: PageOffset,
         _buffer: &mut [u8],
     ) -> Result<Option<Mark>, Refusal> {
-        if block.0 >= self.0 {
-            return Err(Refusal::NoSuchBlock);
-        }
+        self.shown(block)?;
         Err(Refusal::NoSuchPage)
     }
 
@@ -43,23 +55,17 @@ impl Device for Bare {
         _mark: Mark,
         _bytes: &[u8],
     ) -> Result<(), Refusal> {
-        if block.0 >= self.0 {
-            return Err(Refusal::NoSuchBlock);
-        }
+        self.shown(block)?;
         Err(Refusal::NoSuchPage)
     }
 
     fn erase(&mut self, block: Block) -> Result<(), Refusal> {
-        if block.0 >= self.0 {
-            return Err(Refusal::NoSuchBlock);
-        }
+        self.shown(block)?;
         Err(Refusal::BlockWornOut)
     }
 
     fn count(&self, block: Block) -> Result<u32, Refusal> {
-        if block.0 >= self.0 {
-            return Err(Refusal::NoSuchBlock);
-        }
+        self.shown(block)?;
         Ok(0)
     }
 }

@@ -1,4 +1,4 @@
-// Most tests are a table of calls, each with the number of the refusal that it has to meet (0: none), run on one device after the other.
+// Most tests are a table of calls, each with the number of the refusal that it has to meet, if any, run on one device one after the other.
 //
 // The chip of most of them has 2 blocks of 2 pages and the life 2. In its 2,120 bytes the erase counts stand at 20 and 24, the sector numbers
 // at 32 to 44, the stamps at 52 to 64 and the pages from 72 on.
@@ -37,29 +37,30 @@ enum Call {
     Count(u32),
 }
 
-// A call, and the number of its refusal.
+// A call, and the number of its refusal where it has to be refused.
 #[derive(Clone, Copy)]
-struct Case(Call, u32);
+struct Case(Call, Option<u32>);
 
-// A read that was refused and touched its buffer has the number 99.
-fn read_refusal<D: Device>(device: &D, block: u32, page: u32, size: usize) -> u32 {
+// A read that is refused leaves its buffer as it was.
+fn read_refusal<D: Device>(
+    rt: &impl Abort,
+    device: &D,
+    block: u32,
+    page: u32,
+    size: usize,
+) -> Result<Option<u32>, Fail> {
     let mut buffer = [0x5A; 513];
     let end = size.min(513);
-    match device.read(Block(block), PageOffset(page), &mut buffer[0..end]) {
-        Ok(_) => 0,
-        Err(refusal) => {
-            if buffer == [0x5A; 513] {
-                refusal.number()
-            } else {
-                99
-            }
-        }
+    let answer = device.read(Block(block), PageOffset(page), &mut buffer[0..end]);
+    if answer.is_err() {
+        assert!(rt; buffer == [0x5A; 513]);
     }
+    Ok(answer.err().map(|refusal| refusal.number()))
 }
 
-fn refusal<D: Device>(device: &mut D, call: Call) -> u32 {
+fn refusal<D: Device>(rt: &impl Abort, device: &mut D, call: Call) -> Result<Option<u32>, Fail> {
     let answer = match call {
-        Call::Read(block, page, size) => return read_refusal(device, block, page, size),
+        Call::Read(block, page, size) => return read_refusal(rt, device, block, page, size),
         Call::Program(block, page, sector, size) => {
             let bytes = [0xAB; 513];
             let end = size.min(513);
@@ -70,23 +71,14 @@ fn refusal<D: Device>(device: &mut D, call: Call) -> u32 {
             device.program(Block(block), PageOffset(page), mark, &bytes[0..end])
         }
         Call::Erase(block) => device.erase(Block(block)),
-        Call::Count(block) => {
-            match device.count(Block(block)) {
-                Ok(_) => Ok(()),
-                Err(refusal) => Err(refusal),
-            }
-        }
+        Call::Count(block) => device.count(Block(block)).map(|_| ()),
     };
-    match answer {
-        Ok(()) => 0,
-        Err(refusal) => refusal.number(),
-    }
+    Ok(answer.err().map(|refusal| refusal.number()))
 }
 
 fn run<D: Device>(rt: &impl Abort, device: &mut D, cases: &[Case]) -> Result<(), Fail> {
-    for (i, case) in cases.iter().enumerate() {
-        let Case(call, number) = *case;
-        assert_eq!(rt; refusal(device, call), number, "{}", i);
+    for (i, &Case(call, number)) in cases.iter().enumerate() {
+        assert_eq!(rt; refusal(rt, device, call)?, number, "{i}");
     }
     Ok(())
 }
@@ -96,13 +88,14 @@ fn shape<D: Device>(device: &D) -> (u32, u32, u32) {
     (device.blocks(), device.pages(), device.life())
 }
 
-// The sector number of a page, 0 of a blank one and of none.
-fn sector_at<D: Device>(device: &D, block: u32, page: u32) -> u32 {
+// The sector that a page holds, where it is there and not blank.
+fn sector_at<D: Device>(device: &D, block: u32, page: u32) -> Option<Sector> {
     let mut buffer = [0; 512];
-    match device.read(Block(block), PageOffset(page), &mut buffer) {
-        Ok(Some(mark)) => mark.sector.0,
-        _ => 0,
-    }
+    let mark = device
+        .read(Block(block), PageOffset(page), &mut buffer)
+        .ok()
+        .flatten();
+    mark.map(|mark| mark.sector)
 }
 
 // Puts bytes where there is room for them.
@@ -114,19 +107,19 @@ fn put(bytes: &mut [u8], at: usize, part: &[u8]) {
 
 // The smaller number where two apply: each line has all the later reasons too.
 const REFUSED: [Case; 13] = [
-    Case(Call::Read(2, 2, 511), 1),
-    Case(Call::Read(1, 2, 511), 2),
-    Case(Call::Read(1, 1, 511), 3),
-    Case(Call::Read(1, 1, 513), 3),
-    Case(Call::Program(2, 2, NO_SECTOR, 511), 1),
-    Case(Call::Program(0, 2, NO_SECTOR, 511), 2),
-    Case(Call::Program(0, 0, NO_SECTOR, 511), 3),
-    Case(Call::Program(0, 0, NO_SECTOR, 513), 3),
-    Case(Call::Program(0, 0, NO_SECTOR, 512), 4),
-    Case(Call::Program(0, 0, 7, 512), 5),
-    Case(Call::Erase(2), 1),
-    Case(Call::Erase(1), 6),
-    Case(Call::Count(2), 1),
+    Case(Call::Read(2, 2, 511), Some(1)),
+    Case(Call::Read(1, 2, 511), Some(2)),
+    Case(Call::Read(1, 1, 511), Some(3)),
+    Case(Call::Read(1, 1, 513), Some(3)),
+    Case(Call::Program(2, 2, NO_SECTOR, 511), Some(1)),
+    Case(Call::Program(0, 2, NO_SECTOR, 511), Some(2)),
+    Case(Call::Program(0, 0, NO_SECTOR, 511), Some(3)),
+    Case(Call::Program(0, 0, NO_SECTOR, 513), Some(3)),
+    Case(Call::Program(0, 0, NO_SECTOR, 512), Some(4)),
+    Case(Call::Program(0, 0, 7, 512), Some(5)),
+    Case(Call::Erase(2), Some(1)),
+    Case(Call::Erase(1), Some(6)),
+    Case(Call::Count(2), Some(1)),
 ];
 
 #[test]
@@ -134,11 +127,11 @@ fn a_chip_refuses_in_order_and_stays_as_it_was(rt: HostRuntime) -> Result<(), Fa
     let mut bytes = [0; 2120];
     write_blank(&mut bytes, SMALL)?;
     let ready = [
-        Case(Call::Program(0, 0, 5, 512), 0),
-        Case(Call::Erase(1), 0),
-        Case(Call::Erase(1), 0),
-        Case(Call::Read(1, 1, 512), 0),
-        Case(Call::Count(1), 0),
+        Case(Call::Program(0, 0, 5, 512), None),
+        Case(Call::Erase(1), None),
+        Case(Call::Erase(1), None),
+        Case(Call::Read(1, 1, 512), None),
+        Case(Call::Count(1), None),
     ];
     run(&rt, &mut ImageChip::new(&mut bytes), &ready)?;
     let before = bytes;
@@ -153,8 +146,8 @@ fn program_and_erase_change_their_own_bytes_only(rt: HostRuntime) -> Result<(), 
     write_blank(&mut bytes, SMALL)?;
     let blank = bytes;
     let program = [
-        Case(Call::Program(0, 1, 7, 512), 0),
-        Case(Call::Program(1, 0, 0x0102_0304, 512), 0),
+        Case(Call::Program(0, 1, 7, 512), None),
+        Case(Call::Program(1, 0, 0x0102_0304, 512), None),
     ];
     run(&rt, &mut ImageChip::new(&mut bytes), &program)?;
     let mut first = blank;
@@ -169,7 +162,7 @@ fn program_and_erase_change_their_own_bytes_only(rt: HostRuntime) -> Result<(), 
     run(
         &rt,
         &mut ImageChip::new(&mut bytes),
-        &[Case(Call::Erase(1), 0)],
+        &[Case(Call::Erase(1), None)],
     )?;
     put(&mut first, 24, &[1]);
     assert!(rt; bytes == first);
@@ -197,10 +190,10 @@ fn bytes_that_are_no_image_have_no_block(rt: HostRuntime) -> Result<(), Fail> {
     put(&mut bytes, 68, &[5]);
     let before = bytes;
     let all = [
-        Case(Call::Read(0, 0, 512), 1),
-        Case(Call::Program(0, 0, 7, 512), 1),
-        Case(Call::Erase(0), 1),
-        Case(Call::Count(0), 1),
+        Case(Call::Read(0, 0, 512), Some(1)),
+        Case(Call::Program(0, 0, 7, 512), Some(1)),
+        Case(Call::Erase(0), Some(1)),
+        Case(Call::Count(0), Some(1)),
     ];
     let mut chip = ImageChip::new(&mut bytes);
     assert_eq!(rt; shape(&chip), (0, 0, 0));
@@ -219,32 +212,35 @@ fn a_join_has_the_smaller_pages_and_life_of_both_sides(rt: HostRuntime) -> Resul
     run(
         &rt,
         &mut ImageChip::new(&mut other),
-        &[Case(Call::Program(0, 2, 8, 512), 0)],
+        &[Case(Call::Program(0, 2, 8, 512), None)],
     )?;
     let cases = [
-        Case(Call::Program(3, 2, NO_SECTOR, 511), 1),
-        Case(Call::Program(2, 2, NO_SECTOR, 511), 2),
-        Case(Call::Read(2, 2, 512), 2),
-        Case(Call::Program(2, 1, 7, 512), 0),
-        Case(Call::Program(2, 1, 7, 512), 5),
-        Case(Call::Program(1, 1, 6, 512), 0),
-        Case(Call::Erase(3), 1),
-        Case(Call::Erase(0), 0),
-        Case(Call::Erase(0), 6),
-        Case(Call::Count(3), 1),
+        Case(Call::Program(3, 2, NO_SECTOR, 511), Some(1)),
+        Case(Call::Program(2, 2, NO_SECTOR, 511), Some(2)),
+        Case(Call::Read(2, 2, 512), Some(2)),
+        Case(Call::Program(2, 1, 7, 512), None),
+        Case(Call::Program(2, 1, 7, 512), Some(5)),
+        Case(Call::Program(1, 1, 6, 512), None),
+        Case(Call::Erase(3), Some(1)),
+        Case(Call::Erase(0), None),
+        Case(Call::Erase(0), Some(6)),
+        Case(Call::Count(3), Some(1)),
     ];
     let mut join = Join::new(ImageChip::new(&mut bytes), ImageChip::new(&mut other));
     assert_eq!(rt; shape(&join), (3, 2, 1));
     run(&rt, &mut join, &cases)?;
-    assert_eq!(rt; (sector_at(&join, 1, 1), sector_at(&join, 2, 1)), (6, 7));
+    assert_eq!(rt;
+        (sector_at(&join, 1, 1), sector_at(&join, 2, 1)),
+        (Some(Sector(6)), Some(Sector(7)))
+    );
     // an erase clears the page that the join hides too
     run(
         &rt,
         &mut join,
-        &[Case(Call::Erase(2), 0), Case(Call::Erase(2), 6)],
+        &[Case(Call::Erase(2), None), Case(Call::Erase(2), Some(6))],
     )?;
     let other = ImageChip::new(&mut other);
-    assert_eq!(rt; sector_at(&other, 0, 2), 0);
+    assert_eq!(rt; sector_at(&other, 0, 2), None);
     assert_eq!(rt; other.count(Block(0)), Ok(1));
     Ok(())
 }
@@ -277,18 +273,17 @@ fn a_join_shows_at_most_65_536_blocks(rt: HostRuntime) -> Result<(), Fail> {
         (70_000, 1, 65_536),
         (0xFFFF_FFFF, 0xFFFF_FFFF, 65_536),
     ];
-    for (i, side) in sides.iter().enumerate() {
-        let (first, second, blocks) = *side;
+    for (i, (first, second, blocks)) in sides.into_iter().enumerate() {
         let mut join = Join::new(Bare(first), Bare(second));
-        assert_eq!(rt; join.blocks(), blocks, "{}", i);
+        assert_eq!(rt; join.blocks(), blocks, "{i}");
         let last = blocks - 1;
         let cases = [
-            Case(Call::Count(last), 0),
-            Case(Call::Count(blocks), 1),
-            Case(Call::Erase(last), 6),
-            Case(Call::Erase(blocks), 1),
-            Case(Call::Read(last, 0, 512), 2),
-            Case(Call::Read(blocks, 0, 512), 1),
+            Case(Call::Count(last), None),
+            Case(Call::Count(blocks), Some(1)),
+            Case(Call::Erase(last), Some(6)),
+            Case(Call::Erase(blocks), Some(1)),
+            Case(Call::Read(last, 0, 512), Some(2)),
+            Case(Call::Read(blocks, 0, 512), Some(1)),
         ];
         run(&rt, &mut join, &cases)?;
     }
@@ -308,17 +303,16 @@ fn a_window_is_cut_at_the_end(rt: HostRuntime) -> Result<(), Fail> {
         (0xFFFF_FFFF, 0xFFFF_FFFF, 0),
         (0, 0, 0),
     ];
-    for (i, window) in windows.iter().enumerate() {
+    for (i, (first, count, blocks)) in windows.into_iter().enumerate() {
         let mut bytes = [0; 2120];
         write_blank(&mut bytes, SMALL)?;
-        let (first, count, blocks) = *window;
         let mut window = Window::new(ImageChip::new(&mut bytes), Block(first), count);
-        assert_eq!(rt; shape(&window), (blocks, 2, 2), "{}", i);
+        assert_eq!(rt; shape(&window), (blocks, 2, 2), "{i}");
         let past = [
-            Case(Call::Read(blocks, 2, 511), 1),
-            Case(Call::Program(blocks, 2, NO_SECTOR, 511), 1),
-            Case(Call::Erase(blocks), 1),
-            Case(Call::Count(blocks), 1),
+            Case(Call::Read(blocks, 2, 511), Some(1)),
+            Case(Call::Program(blocks, 2, NO_SECTOR, 511), Some(1)),
+            Case(Call::Erase(blocks), Some(1)),
+            Case(Call::Count(blocks), Some(1)),
         ];
         run(&rt, &mut window, &past)?;
     }
@@ -339,17 +333,23 @@ fn a_pile_of_joins_and_windows_is_a_device(rt: HostRuntime) -> Result<(), Fail> 
     let mut pile = Join::new(window, Window::new(ImageChip::new(&mut third), Block(1), 1));
     assert_eq!(rt; shape(&pile), (3, 2, 1));
     let cases = [
-        Case(Call::Program(0, 0, 4, 512), 0),
-        Case(Call::Program(1, 1, 5, 512), 0),
-        Case(Call::Program(2, 0, 6, 512), 0),
-        Case(Call::Program(1, 2, 7, 512), 2),
-        Case(Call::Program(3, 0, 7, 512), 1),
-        Case(Call::Erase(2), 0),
-        Case(Call::Erase(2), 6),
+        Case(Call::Program(0, 0, 4, 512), None),
+        Case(Call::Program(1, 1, 5, 512), None),
+        Case(Call::Program(2, 0, 6, 512), None),
+        Case(Call::Program(1, 2, 7, 512), Some(2)),
+        Case(Call::Program(3, 0, 7, 512), Some(1)),
+        Case(Call::Erase(2), None),
+        Case(Call::Erase(2), Some(6)),
     ];
     run(&rt, &mut pile, &cases)?;
-    assert_eq!(rt; sector_at(&ImageChip::new(&mut bytes), 1, 0), 4);
-    assert_eq!(rt; sector_at(&ImageChip::new(&mut other), 0, 1), 5);
+    assert_eq!(rt;
+        sector_at(&ImageChip::new(&mut bytes), 1, 0),
+        Some(Sector(4))
+    );
+    assert_eq!(rt;
+        sector_at(&ImageChip::new(&mut other), 0, 1),
+        Some(Sector(5))
+    );
     assert_eq!(rt; (third[20], third[24], third[40]), (0, 1, 0xFF));
     Ok(())
 }
@@ -393,19 +393,17 @@ const ROOMS: [Room; 12] = [
 
 #[test]
 fn a_blank_image_is_refused_as_its_check_would(rt: HostRuntime) {
-    for (i, case) in ROOMS.iter().enumerate() {
-        let Room(geometry, length, number, section, byte) = *case;
+    for (i, Room(geometry, length, number, section, byte)) in ROOMS.into_iter().enumerate() {
         let mut bytes = [0x5A; 2121];
         let end = length.min(2121);
-        let fault = match write_blank(&mut bytes[0..end], geometry) {
-            Ok(()) => (0, 0, 0),
-            Err(e) => (
-                e.fault.fault.problem.number(),
-                e.fault.section.number(),
-                e.fault.fault.byte,
-            ),
-        };
-        assert_eq!(rt; fault, (number, section, byte), "{}", i);
-        assert!(rt; bytes == [0x5A; 2121], "{}", i);
+        let answer = write_blank(&mut bytes[0..end], geometry).map_err(|fault| {
+            (
+                fault.fault.fault.problem.number(),
+                fault.fault.section.number(),
+                fault.fault.fault.byte,
+            )
+        });
+        assert_eq!(rt; answer, Err((number, section, byte)), "{i}");
+        assert!(rt; bytes == [0x5A; 2121], "{i}");
     }
 }
