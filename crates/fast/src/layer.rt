@@ -29,7 +29,7 @@ use crate::steps::copies::vacant;
 use crate::steps::writes::write_accepted;
 use crate::tables::{Sizes, Tables};
 use crate::wear::worn;
-use flash::device::Device;
+use flash::device::{Device, SECTOR_SIZE};
 use flash::numbers::{Block, PageOffset, Sector};
 use std::alloc::{AllocError, Global};
 
@@ -57,7 +57,7 @@ fn erase_all<D: Device>(device: &mut D)
 
 // Fills the buffer with what the device shows of a page, and with 0xFF if that is blank or the device refuses.
 fn show<D: Device>(device: &D, block: Block, page: PageOffset, buffer: &mut [u8]) -> Found
-    requires { length buffer.old ≡ 512 }
+    requires { length buffer.old ≡ SECTOR_SIZE }
     ensures { found_told result buffer.new ≡ shown (line (seen (D.Device.flash device.now) block.0 page.0)) }
 {
     match device.read(block, page, buffer) {
@@ -93,10 +93,10 @@ fn admit<D: Device>(
     ensures found { IfOk result (λ first. first ≡ is_blank (seen (D.Device.flash device.now) ((view_of tables.now).data_block (sector.0 / tables.now.sizes.pages)) (sector.0 % tables.now.sizes.pages))) }
 {
     let sizes = &tables.sizes;
-    if sector.0 >= sizes.logical * sizes.pages {
+    if sector.0 >= sizes.sectors() {
         return Err(Refusal::NoSuchSector);
     }
-    if bytes.len() != 512 {
+    if bytes.len() != SECTOR_SIZE {
         return Err(Refusal::BufferNotASector);
     }
     let block = tables.map[(sector.0 / sizes.pages) as usize];
@@ -124,7 +124,7 @@ impl<D: Device> Layer<D> {
         ensures law { IfOk result (λ y. Begun (started (D.Device.flash device) logical random first) (layer_of D.Device.flash y)) }
         ensures untouched { IfErr result (λ e. e.0 ≡ device) }
     {
-        if let Err(_) = fit(&device, logical, random, first) {
+        if fit(&device, logical, random, first).is_err() {
             return Ok(Layer {
                 device,
                 tables: None,
@@ -169,23 +169,19 @@ impl<D: Device> Layer<D> {
     pub fn sectors(&self) -> u32
         ensures { result ≡ sectors (layer_of D.Device.flash self.now) }
     {
-        match &self.tables {
-            Some(tables) => tables.sizes.logical * tables.sizes.pages,
-            None => 0,
-        }
+        self.tables
+            .as_ref()
+            .map_or(0, |tables| tables.sizes.sectors())
     }
 
     // The role of a block, if the layer has sectors and the device such a block.
     pub fn role(&self, block: Block) -> Option<Role>
         ensures { option_map role_told result ≡ role_meant self.now.tables block.0 }
     {
-        let Some(tables) = &self.tables else {
-            return None;
-        };
-        if block.0 >= tables.sizes.blocks {
-            return None;
-        }
-        Some(tables.role(block))
+        self.tables
+            .as_ref()
+            .filter(|tables| block.0 < tables.sizes.blocks)
+            .map(|tables| tables.role(block))
     }
 
     // Reads a sector into the buffer, which is filled with 0xFF where it was never written.
@@ -197,10 +193,10 @@ impl<D: Device> Layer<D> {
             return Err(Refusal::NoSuchSector);
         };
         let sizes = &tables.sizes;
-        if sector.0 >= sizes.logical * sizes.pages {
+        if sector.0 >= sizes.sectors() {
             return Err(Refusal::NoSuchSector);
         }
-        if buffer.len() != 512 {
+        if buffer.len() != SECTOR_SIZE {
             return Err(Refusal::BufferNotASector);
         }
         let c = LogicalBlock(sector.0 / sizes.pages);

@@ -9,29 +9,23 @@ ghost use Rattle.fast.specs.Leaves.{page_told, fresh_view, Carries};
 use crate::numbers::LogicalBlock;
 use crate::steps::Fresh;
 use crate::tables::Tables;
-use flash::device::{Device, Mark};
+use flash::device::{Device, Mark, SECTOR_SIZE};
 use flash::numbers::{Block, PageOffset};
 
 // What the device shows of a page, with its bytes in the buffer: nothing where it refuses the read.
 fn see<D: Device>(device: &D, block: Block, page: PageOffset, buffer: &mut [u8]) -> Option<Mark>
-    requires { length buffer.old ≡ 512 }
+    requires { length buffer.old ≡ SECTOR_SIZE }
     ensures { page_told result buffer.new ≡ seen (D.Device.flash device.now) block.0 page.0 }
 {
-    match device.read(block, page, buffer) {
-        Ok(mark) => mark,
-        Err(_) => None,
-    }
+    device.read(block, page, buffer).unwrap_or(None)
 }
 
 // Whether a page is shown as blank.
 pub(crate) fn vacant<D: Device>(device: &D, block: Block, page: PageOffset) -> bool
     ensures { result ≡ is_blank (seen (D.Device.flash device.now) block.0 page.0) }
 {
-    let mut buffer = [0u8; 512];
-    match see(device, block, page, &mut buffer) {
-        None => true,
-        Some(_) => false,
-    }
+    let mut buffer = [0u8; SECTOR_SIZE];
+    see(device, block, page, &mut buffer).is_none()
 }
 
 // Copies the page in the place of an offset, mark and all; a blank one stays blank. Says how many pages that is.
@@ -48,7 +42,7 @@ fn copy_page<D: Device>(
     ensures few { result ≤ 1 }
 {
     let (block, page) = tables.place(c, o);
-    let mut buffer = [0u8; 512];
+    let mut buffer = [0u8; SECTOR_SIZE];
     match see(device, block, page, &mut buffer) {
         None => 0,
         Some(mark) => {

@@ -1,7 +1,8 @@
 // The cases of an accepted write. W0, the first write of a sector, goes into its data block; every other is an overwrite: W1 of offset 0
 // opens a sequential log block, W2 goes on in the one that the logical block owns, and W3 goes into the random log blocks.
 
-ghost use Rattle.std.specs.Prelude.{◌≡◌, ◌+◌, ◌-◌, ◌*◌, ◌/◌, ◌%◌, ◌<◌, ◌≤◌, Some, None, vec_len};
+ghost use Rattle.std.specs.Prelude.{◌≡◌, ◌+◌, ◌-◌, ◌*◌, ◌/◌, ◌%◌, ◌<◌, ◌≤◌, Some, None};
+ghost use Rattle.std.specs.VecDeque.{deque_len};
 ghost use Rattle.flash.specs.Calls.{is_blank};
 ghost use Rattle.scheme.specs.Steps.{write_first, open_sequential, settle_owner, write_start, append_sequential, write_sequential, visit, reclaim, thinned, make_room, append_random, write_random, overwrite, write};
 ghost use Rattle.scheme.specs.Work.{each, seen};
@@ -120,7 +121,7 @@ fn write_sequential<D: Device>(
 
 // One entry of the victim: a live one has its logical block settled.
 fn visit<D: Device>(device: &mut D, tables: Tables, i: u32) -> Step
-    requires within { i < vec_len tables.rw.entries }
+    requires within { i < deque_len tables.rw.entries }
     ensures work { Does D.Device.flash (visit tables.sizes.pages i) device.old tables device.new result }
     ensures few { (result.erases ≤ 1) × (result.copies ≤ tables.sizes.pages) }
     ensures sized { Sized result.tables tables }
@@ -139,7 +140,7 @@ fn visit<D: Device>(device: &mut D, tables: Tables, i: u32) -> Step
 
 // Visits every entry of the victim in page order. Each is looked up when its turn comes, for an earlier settle may have made it stale.
 fn visit_all<D: Device>(device: &mut D, tables: Tables) -> Step
-    requires long { tables.sizes.pages ≤ vec_len tables.rw.entries }
+    requires long { tables.sizes.pages ≤ deque_len tables.rw.entries }
     ensures work { Does D.Device.flash (each (visit tables.sizes.pages) 0 tables.sizes.pages) device.old tables device.new result }
     ensures few { (result.erases ≤ tables.sizes.pages) × (result.copies ≤ tables.sizes.pages * tables.sizes.pages) }
     ensures sized { Sized result.tables tables }
@@ -164,13 +165,13 @@ fn visit_all<D: Device>(device: &mut D, tables: Tables) -> Step
 
 // Settles what is live in the oldest random log block, the victim, and makes that block free.
 fn reclaim<D: Device>(device: &mut D, tables: Tables) -> Step
-    requires some { 0 < vec_len tables.rw.blocks }
-    requires full { tables.sizes.pages * vec_len tables.rw.blocks ≤ vec_len tables.rw.entries }
+    requires some { 0 < deque_len tables.rw.blocks }
+    requires full { tables.sizes.pages * deque_len tables.rw.blocks ≤ deque_len tables.rw.entries }
     ensures work { Does D.Device.flash (reclaim tables.sizes.pages) device.old tables device.new result }
     ensures few { (result.erases ≤ tables.sizes.pages + 1) × (result.copies ≤ tables.sizes.pages * tables.sizes.pages) }
     ensures sized { Sized result.tables tables }
-    ensures logs { vec_len result.tables.rw.blocks + 1 ≡ vec_len tables.rw.blocks }
-    ensures entries { vec_len result.tables.rw.entries ≡ vec_len tables.rw.entries - tables.sizes.pages }
+    ensures logs { deque_len result.tables.rw.blocks + 1 ≡ deque_len tables.rw.blocks }
+    ensures entries { deque_len result.tables.rw.entries ≡ deque_len tables.rw.entries - tables.sizes.pages }
 {
     let Step {
         tables,
@@ -188,12 +189,12 @@ fn reclaim<D: Device>(device: &mut D, tables: Tables) -> Step
 
 // Makes fewer random log blocks than there may be, where all are full.
 fn thin<D: Device>(device: &mut D, tables: Tables) -> Step
-    requires full { tables.sizes.pages * vec_len tables.rw.blocks ≤ vec_len tables.rw.entries }
+    requires full { tables.sizes.pages * deque_len tables.rw.blocks ≤ deque_len tables.rw.entries }
     ensures work { Does D.Device.flash (thinned tables.sizes.pages tables.sizes.random) device.old tables device.new result }
     ensures few { (result.erases ≤ tables.sizes.pages + 1) × (result.copies ≤ tables.sizes.pages * tables.sizes.pages) }
     ensures sized { Sized result.tables tables }
-    ensures fewer { vec_len result.tables.rw.blocks < result.tables.sizes.random }
-    ensures full { result.tables.sizes.pages * vec_len result.tables.rw.blocks ≤ vec_len result.tables.rw.entries }
+    ensures fewer { deque_len result.tables.rw.blocks < result.tables.sizes.random }
+    ensures full { result.tables.sizes.pages * deque_len result.tables.rw.blocks ≤ deque_len result.tables.rw.entries }
 {
     if tables.rw.blocks.len() < tables.sizes.random as usize {
         return Step {
@@ -210,7 +211,7 @@ fn make_room<D: Device>(device: &mut D, tables: Tables) -> Step
     ensures work { Does D.Device.flash (make_room tables.sizes.pages tables.sizes.random) device.old tables device.new result }
     ensures few { (result.erases ≤ tables.sizes.pages + 1) × (result.copies ≤ tables.sizes.pages * tables.sizes.pages) }
     ensures sized { Sized result.tables tables }
-    ensures room { vec_len result.tables.rw.entries < result.tables.sizes.pages * vec_len result.tables.rw.blocks }
+    ensures room { deque_len result.tables.rw.entries < result.tables.sizes.pages * deque_len result.tables.rw.blocks }
 {
     if tables.rw.entries.len() < tables.sizes.pages as usize * tables.rw.blocks.len() {
         return Step {
@@ -234,7 +235,7 @@ fn make_room<D: Device>(device: &mut D, tables: Tables) -> Step
 // A sector into the next page of the random log blocks.
 fn append_rw<D: Device>(device: &mut D, tables: Tables, mark: Mark, bytes: &[u8]) -> Tables
     requires known { mark.sector.0 < tables.sizes.logical * tables.sizes.pages }
-    requires room { vec_len tables.rw.entries < tables.sizes.pages * vec_len tables.rw.blocks }
+    requires room { deque_len tables.rw.entries < tables.sizes.pages * deque_len tables.rw.blocks }
     ensures work { Writes D.Device.flash (append_random tables.sizes.pages mark.sector.0 (page_made mark bytes.now)) device.old tables device.new result }
     ensures sized { Sized result tables }
 {

@@ -11,18 +11,18 @@ use Rattle.fast.proofs.Counts.{get_or_numbers}
 use Rattle.fast.proofs.Measures.{in_block}
 use Rattle.fast.proofs.layer.admit.Goals as goal
 
-pub returns-then-sector-sizes : goal.returns-then-sector-sizes
-returns-then-sector-sizes g c =
-    record { refusal = no_sector (meant (g.D.Device.flash c.args.device.now) (Some c.args.tables.now)) c.args.sector.0 c.args.bytes.now c.if-sector-sizes.true; known = tt; left = tt; found = tt }
+pub returns-then-sector-sectors : goal.returns-then-sector-sectors
+returns-then-sector-sectors g c =
+    record { refusal = no_sector (meant (g.D.Device.flash c.args.device.now) (Some c.args.tables.now)) c.args.sector.0 c.args.bytes.now (omega (arith, c.sectors.ensures, c.if-sector-sectors.true)); known = tt; left = tt; found = tt }
 
-pub returns-then-bytes-ne512 : goal.returns-then-bytes-ne512
-returns-then-bytes-ne512 g c =
-    record { refusal = no_buffer (meant (g.D.Device.flash c.args.device.now) (Some c.args.tables.now)) c.args.sector.0 c.args.bytes.now c.if-sector-sizes.false c.if-bytes-ne512.true; known = tt; left = tt; found = tt }
+pub returns-then-bytes-ne-SECTOR_SIZE : goal.returns-then-bytes-ne-SECTOR_SIZE
+returns-then-bytes-ne-SECTOR_SIZE g c =
+    record { refusal = no_buffer (meant (g.D.Device.flash c.args.device.now) (Some c.args.tables.now)) c.args.sector.0 c.args.bytes.now (omega (arith, c.sectors.ensures, c.if-sector-sectors.false)) c.if-bytes-ne-SECTOR_SIZE.true; known = tt; left = tt; found = tt }
 
 pub index-block-requires : goal.index-block-requires
 index-block-requires g c =
     let t = c.args.tables.now in
-    let known : c.args.sector.0 / t.sizes.pages < t.sizes.logical = in_block c.args.sector.0 t.sizes.logical t.sizes.pages (omega (arith, t.sizes.pages_fit)) c.if-sector-sizes.false in
+    let known : c.args.sector.0 / t.sizes.pages < t.sizes.logical = in_block c.args.sector.0 t.sizes.logical t.sizes.pages (omega (arith, t.sizes.pages_fit)) (omega (arith, c.sectors.ensures, c.if-sector-sectors.false)) in
     omega (arith, t.mapped)
 
 -- what was found of the sector's data page
@@ -39,8 +39,8 @@ returns-then-wears_out g c =
     let f = g.D.Device.flash c.args.device.now in
     let y = meant f (Some t) in
     let n = c.args.sector.0 in
-    let found = shown f t n c.index-block.result.now c.vacant-first.result c.if-sector-sizes.false c.index-block.ensures c.vacant-first.ensures in
-    record { refusal = no_life y n c.args.bytes.now c.if-sector-sizes.false c.if-bytes-ne512.false (wears y n c.args.bytes.now c.vacant-first.result true found c.if-wears_out.ensures); known = tt; left = tt; found = tt }
+    let found = shown f t n c.index-block.result.now c.vacant-first.result (omega (arith, c.sectors.ensures, c.if-sector-sectors.false)) c.index-block.ensures c.vacant-first.ensures in
+    record { refusal = no_life y n c.args.bytes.now (omega (arith, c.sectors.ensures, c.if-sector-sectors.false)) c.if-bytes-ne-SECTOR_SIZE.false (wears y n c.args.bytes.now c.vacant-first.result true found c.if-wears_out.ensures); known = tt; left = tt; found = tt }
 
 pub returns-then-tables : goal.returns-then-tables
 returns-then-tables g c =
@@ -48,8 +48,8 @@ returns-then-tables g c =
     let f = g.D.Device.flash c.args.device.now in
     let y = meant f (Some t) in
     let n = c.args.sector.0 in
-    let found = shown f t n c.index-block.result.now c.vacant-first.result c.if-sector-sizes.false c.index-block.ensures c.vacant-first.ensures in
-    record { refusal = no_stamp y n c.args.bytes.now c.if-sector-sizes.false c.if-bytes-ne512.false (wears y n c.args.bytes.now c.vacant-first.result false found c.if-wears_out.ensures) c.if-tables.true; known = tt; left = tt; found = tt }
+    let found = shown f t n c.index-block.result.now c.vacant-first.result (omega (arith, c.sectors.ensures, c.if-sector-sectors.false)) c.index-block.ensures c.vacant-first.ensures in
+    record { refusal = no_stamp y n c.args.bytes.now (omega (arith, c.sectors.ensures, c.if-sector-sectors.false)) c.if-bytes-ne-SECTOR_SIZE.false (wears y n c.args.bytes.now c.vacant-first.result false found c.if-wears_out.ensures) c.if-tables.true; known = tt; left = tt; found = tt }
 
 pub returns : goal.returns
 returns g c =
@@ -57,10 +57,10 @@ returns g c =
     let f = g.D.Device.flash c.args.device.now in
     let y = meant f (Some t) in
     let n = c.args.sector.0 in
-    let found = shown f t n c.index-block.result.now c.vacant-first.result c.if-sector-sizes.false c.index-block.ensures c.vacant-first.ensures in
+    let found = shown f t n c.index-block.result.now c.vacant-first.result (omega (arith, c.sectors.ensures, c.if-sector-sectors.false)) c.index-block.ensures c.vacant-first.ensures in
     record {
-      refusal = no_bar y n c.args.bytes.now c.if-sector-sizes.false c.if-bytes-ne512.false (wears y n c.args.bytes.now c.vacant-first.result false found c.if-wears_out.ensures) c.if-tables.false;
-      known = c.if-sector-sizes.false;
+      refusal = no_bar y n c.args.bytes.now (omega (arith, c.sectors.ensures, c.if-sector-sectors.false)) c.if-bytes-ne-SECTOR_SIZE.false (wears y n c.args.bytes.now c.vacant-first.result false found c.if-wears_out.ensures) c.if-tables.false;
+      known = omega (arith, c.sectors.ensures, c.if-sector-sectors.false);
       left = search rules;
       found = found;
     }

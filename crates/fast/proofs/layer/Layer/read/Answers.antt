@@ -14,27 +14,27 @@ returns-in_default g c =
     let e = subst (λ q. record { answer = refused 13; buffer = x } ≡ (call (meant f q) (read n x)).reply) (sym c.in_default.is) (read_no_sector (meant f None) n x (omega arith)) in
     record { reply = e; law = read_lawful _ n x _ e }
 
-pub returns-then-sector-sizes : goal.returns-then-sector-sizes
-returns-then-sector-sizes g c =
+pub returns-then-sector-sectors : goal.returns-then-sector-sectors
+returns-then-sector-sectors g c =
     let f = g.D.Device.flash c.args.self.now.device in
     let n = c.args.sector.0 in
     let x = c.args.buffer.now in
-    let e = subst (λ q. record { answer = refused 13; buffer = x } ≡ (call (meant f q) (read n x)).reply) (sym c.in-Some.is) (read_no_sector (meant f (Some c.in-Some.tables)) n x c.if-sector-sizes.true) in
+    let e = subst (λ q. record { answer = refused 13; buffer = x } ≡ (call (meant f q) (read n x)).reply) (sym c.in-Some.is) (read_no_sector (meant f (Some c.in-Some.tables)) n x (omega (arith, c.sectors.ensures, c.if-sector-sectors.true))) in
     record { reply = e; law = read_lawful _ n x _ e }
 
-pub returns-then-buffer-ne512 : goal.returns-then-buffer-ne512
-returns-then-buffer-ne512 g c =
+pub returns-then-buffer-ne-SECTOR_SIZE : goal.returns-then-buffer-ne-SECTOR_SIZE
+returns-then-buffer-ne-SECTOR_SIZE g c =
     let f = g.D.Device.flash c.args.self.now.device in
     let n = c.args.sector.0 in
     let x = c.args.buffer.now in
-    let e = subst (λ q. record { answer = refused 3; buffer = x } ≡ (call (meant f q) (read n x)).reply) (sym c.in-Some.is) (read_no_buffer (meant f (Some c.in-Some.tables)) n x c.if-sector-sizes.false c.if-buffer-ne512.true) in
+    let e = subst (λ q. record { answer = refused 3; buffer = x } ≡ (call (meant f q) (read n x)).reply) (sym c.in-Some.is) (read_no_buffer (meant f (Some c.in-Some.tables)) n x (omega (arith, c.sectors.ensures, c.if-sector-sectors.false)) c.if-buffer-ne-SECTOR_SIZE.true) in
     record { reply = e; law = read_lawful _ n x _ e }
 
 pub place-requires : goal.place-requires
 place-requires g c =
     let t = c.in-Some.tables in
     let pos : 0 < t.sizes.pages = omega (arith, t.sizes.pages_fit) in
-    record { known = (div-lt_iff_lt-mul pos).1 c.if-sector-sizes.false; fits = mod-lt c.args.sector.0 pos }
+    record { known = (div-lt_iff_lt-mul pos).1 (omega (arith, c.sectors.ensures, c.if-sector-sectors.false)); fits = mod-lt c.args.sector.0 pos }
 
 pub returns : goal.returns
 returns g c =
@@ -43,6 +43,6 @@ returns g c =
     let x = c.args.buffer.now in
     let t = c.in-Some.tables in
     let y = meant f (Some t) in
-    let r = c.show.ensures ∙ ap₂ (λ b p. shown (line (seen f b p))) c.place.ensures.block c.place.ensures.page ∙ read_shows y n x c.if-sector-sizes.false c.if-buffer-ne512.false in
+    let r = c.show.ensures ∙ ap₂ (λ b p. shown (line (seen f b p))) c.place.ensures.block c.place.ensures.page ∙ read_shows y n x (omega (arith, c.sectors.ensures, c.if-sector-sectors.false)) c.if-buffer-ne-SECTOR_SIZE.false in
     let e = r ∙ ap (λ q. (call (meant f q) (read n x)).reply) (sym c.in-Some.is) in
     record { reply = e; law = read_lawful _ n x _ e }
