@@ -7,6 +7,7 @@ use Rattle.scheme.specs.Tables.{Tables as SchemeTables}
 use Rattle.scheme.specs.Work.{State, Work}
 use Rattle.fast.specs.Meaning.{view_of}
 use Rattle.fast.specs.declared.steps.Fresh.{Fresh}
+use Rattle.fast.specs.declared.steps.Page as code
 use Rattle.fast.specs.declared.steps.Step.{Step}
 use Rattle.fast.specs.declared.tables.Tables.{Tables}
 
@@ -15,14 +16,14 @@ abbrev pub page_told : Option Mark → List ℕ → Page
 page_told None bytes = blank
 page_told (Some m) bytes = holds m.sector.0 m.stamp bytes
 
--- the page that a mark and bytes make
-abbrev pub page_made : Mark → List ℕ → Page
-page_made m bytes = holds m.sector.0 m.stamp bytes
+-- the page that is programmed
+abbrev pub page_made : code.Page → Page
+page_made p = holds p.mark.sector.0 p.mark.stamp p.bytes.now
 
 -- a new page for one offset
-abbrev pub fresh_view : Option Fresh → List ℕ → Option scheme.Fresh
-fresh_view None bytes = None
-fresh_view (Some x) bytes = Some (record { offset = x.offset.0; content = page_made x.mark bytes })
+abbrev pub fresh_view : Option Fresh → Option scheme.Fresh
+fresh_view None = None
+fresh_view (Some x) = Some (record { offset = x.offset.0; content = page_made x.page })
 
 abbrev pub at : Flash → SchemeTables → State
 at f t = record { flash = f; tables = t }

@@ -20,7 +20,7 @@ ghost use Rattle.fast.specs.Meaning.{view_of};
 ghost use Rattle.fast.specs.Roles.{role_told};
 ghost use Rattle.fast.specs.Told.{meant, layer_of, role_meant, started, found_told, read_told, write_told, admitted_told};
 
-use crate::fit::fit;
+use crate::fit::{Plan, fit};
 use crate::numbers::LogicalBlock;
 use crate::refusal::Refusal;
 use crate::roles::Role;
@@ -113,18 +113,12 @@ fn admit<D: Device>(
 impl<D: Device> Layer<D> {
     // Formats a device: every block is erased once. A device that does not fit is left alone, and the layer has no sectors. Want of memory
     // is found before the first erase, and gives the device back as it was.
-    pub fn format(
-        heap: Global,
-        device: D,
-        logical: u32,
-        random: u32,
-        first: u32,
-    ) -> Result<Layer<D>, (D, AllocError)>
-        ensures after { IfOk result (λ y. layer_of D.Device.flash y ≡ format (started (D.Device.flash device) logical random first)) }
-        ensures law { IfOk result (λ y. Begun (started (D.Device.flash device) logical random first) (layer_of D.Device.flash y)) }
+    pub fn format(heap: Global, device: D, plan: Plan) -> Result<Layer<D>, (D, AllocError)>
+        ensures after { IfOk result (λ y. layer_of D.Device.flash y ≡ format (started (D.Device.flash device) plan.logical plan.random plan.first_stamp)) }
+        ensures law { IfOk result (λ y. Begun (started (D.Device.flash device) plan.logical plan.random plan.first_stamp) (layer_of D.Device.flash y)) }
         ensures untouched { IfErr result (λ e. e.0 ≡ device) }
     {
-        if fit(&device, logical, random, first).is_err() {
+        if fit(&device, plan).is_err() {
             return Ok(Layer {
                 device,
                 tables: None,
@@ -132,11 +126,11 @@ impl<D: Device> Layer<D> {
         }
         let sizes = Sizes {
             pages: device.pages(),
-            logical,
-            random,
+            logical: plan.logical,
+            random: plan.random,
             blocks: device.blocks(),
         };
-        match start_tables(heap, sizes, first) {
+        match start_tables(heap, sizes, plan.first_stamp) {
             Err(e) => Err((device, e)),
             Ok(tables) => {
                 let mut device = device;

@@ -57,23 +57,22 @@ fn carry<D: Device>(
     device: &mut D,
     tables: &Tables,
     fresh: Option<Fresh>,
-    bytes: &[u8],
     c: LogicalBlock,
     to: Block,
     o: PageOffset,
 ) -> u32
     requires known { c.0 < tables.now.sizes.logical }
     requires fits { o.0 < tables.now.sizes.pages }
-    ensures work { Carries D.Device.flash (transfer tables.now.sizes.pages (fresh_view fresh bytes.now) c.0 to.0 o.0) device.old tables.now device.new result }
+    ensures work { Carries D.Device.flash (transfer tables.now.sizes.pages (fresh_view fresh.entry) c.0 to.0 o.0) device.old tables.now device.new result }
     ensures few { result ≤ 1 }
 {
-    if let Some(new) = fresh {
-        if new.offset.0 == o.0 {
-            let _ = device.program(to, o, new.mark, bytes);
-            return 0;
+    match fresh {
+        Some(new) if new.offset == o => {
+            let _ = device.program(to, o, new.page.mark, new.page.bytes);
+            0
         }
+        _ => copy_page(device, tables, c, to, o),
     }
-    copy_page(device, tables, c, to, o)
 }
 
 // Gives a block the pages of the offsets from `first` on, in order. Says how many were copied.
@@ -81,19 +80,18 @@ pub(crate) fn carry_from<D: Device>(
     device: &mut D,
     tables: &Tables,
     fresh: Option<Fresh>,
-    bytes: &[u8],
     c: LogicalBlock,
     to: Block,
     first: u32,
 ) -> u32
     requires known { c.0 < tables.now.sizes.logical }
     requires fits { first ≤ tables.now.sizes.pages }
-    ensures work { Carries D.Device.flash (each (transfer tables.now.sizes.pages (fresh_view fresh bytes.now) c.0 to.0) first (tables.now.sizes.pages - first)) device.old tables.now device.new result }
+    ensures work { Carries D.Device.flash (each (transfer tables.now.sizes.pages (fresh_view fresh.entry) c.0 to.0) first (tables.now.sizes.pages - first)) device.old tables.now device.new result }
     ensures few { result ≤ tables.now.sizes.pages }
 {
     let mut copies = 0;
     for o in first..tables.sizes.pages {
-        copies += carry(device, tables, fresh, bytes, c, to, PageOffset(o));
+        copies += carry(device, tables, fresh, c, to, PageOffset(o));
     }
     copies
 }

@@ -5,6 +5,8 @@
 // every device and every tables: the scheme's steps go on where the device refuses, and so do these. That a device refuses nothing of
 // what is asked after format is a law of runs, and not a premise here.
 
+ghost use Rattle.std.specs.Prelude.{◌≡◌};
+
 use crate::tables::Tables;
 use flash::device::Mark;
 use flash::numbers::PageOffset;
@@ -21,9 +23,29 @@ pub(crate) struct Step {
     pub copies: u32,
 }
 
-// A new page for one offset of a logical block; its bytes go beside it.
+impl Step {
+    // A step that erased and copied nothing.
+    pub(crate) fn new(tables: Tables) -> Step
+        ensures { result ≡ record { tables = tables; erases = 0; copies = 0 } }
+    {
+        Step {
+            tables,
+            erases: 0,
+            copies: 0,
+        }
+    }
+}
+
+// What a page is programmed with.
 #[derive(Clone, Copy)]
-pub(crate) struct Fresh {
-    pub offset: PageOffset,
+pub(crate) struct Page<'a> {
     pub mark: Mark,
+    pub bytes: &'a [u8],
+}
+
+// A new page for one offset of a logical block.
+#[derive(Clone, Copy)]
+pub(crate) struct Fresh<'a> {
+    pub offset: PageOffset,
+    pub page: Page<'a>,
 }

@@ -11,7 +11,7 @@ returns-in-Some g c =
     let d = c.merge_sw.ensures in
     let has = c.in-Some.ensures.has in
     record {
-      work = settles_owned t.sizes.pages (fresh_view c.args.fresh c.args.bytes.now) c.args.c.0 (at (flash c.args.device.now) (view_of t)) t.sw c.in-Some.sw (flash c.merge_sw.new.device) (view_of c.merge_sw.result.tables) _ _ refl has.0 has.1 d.work;
+      work = settles_owned t.sizes.pages (fresh_view c.args.fresh) c.args.c.0 (at (flash c.args.device.now) (view_of t)) t.sw c.in-Some.sw (flash c.merge_sw.new.device) (view_of c.merge_sw.result.tables) _ _ refl has.0 has.1 d.work;
       few = d.few;
       sized = d.sized;
       logged = d.logged;
@@ -23,7 +23,7 @@ returns-in-None g c =
     let flash = g.D.Device.flash in
     let d = c.merge_free.ensures in
     record {
-      work = settles_free t.sizes.pages (fresh_view c.args.fresh c.args.bytes.now) c.args.c.0 (at (flash c.args.device.now) (view_of t)) (flash c.merge_free.new.device) (view_of c.merge_free.result.tables) _ _ (sym c.in-None.ensures.view) d.work;
+      work = settles_free t.sizes.pages (fresh_view c.args.fresh) c.args.c.0 (at (flash c.args.device.now) (view_of t)) (flash c.merge_free.new.device) (view_of c.merge_free.result.tables) _ _ (sym c.in-None.ensures.view) d.work;
       few = d.few;
       sized = d.sized;
       logged = d.logged;

@@ -13,12 +13,12 @@ returns-then-len-tables g c =
     let lens = ap (λ n. t.sizes.pages * n) (length_numbers (deque_items t.rw.blocks) ∙ sym t.rw.blocks.ok.0) in
     let took = ap (λ n. t.sizes.pages * n) c.len-2.ensures in
     let h : length (entries_view (deque_items t.rw.entries)) < t.sizes.pages * length (numbers (deque_items t.rw.blocks)) = omega (arith, lens, took, length_views (deque_items t.rw.entries), t.rw.entries.ok.0, c.len.ensures, c.if-len-tables.true) in
-    record {
+    rw c.new.ensures (record {
       work = room_already t.sizes.pages t.sizes.random (g.D.Device.flash c.args.device.now) (view_of t) h;
       few = (omega arith, omega arith);
       sized = (refl, refl);
       room = omega (arith, took, c.len.ensures, c.if-len-tables.true);
-    }
+    })
 
 pub returns : goal.returns
 returns g c =

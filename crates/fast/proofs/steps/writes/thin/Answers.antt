@@ -10,13 +10,13 @@ pub returns-then-len-tables : goal.returns-then-len-tables
 returns-then-len-tables g c =
     let t = c.args.tables in
     let h : length (numbers (deque_items t.rw.blocks)) < t.sizes.random = omega (arith, length_numbers (deque_items t.rw.blocks), t.rw.blocks.ok.0, c.len.ensures, c.if-len-tables.true) in
-    record {
+    rw c.new.ensures (record {
       work = thin_already t.sizes.pages t.sizes.random (g.D.Device.flash c.args.device.now) (view_of t) h;
       few = (omega arith, omega arith);
       sized = (refl, refl);
       fewer = omega (arith, c.len.ensures, c.if-len-tables.true);
       full = c.requires.full;
-    }
+    })
 
 pub returns : goal.returns
 returns g c =

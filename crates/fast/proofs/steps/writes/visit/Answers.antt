@@ -10,12 +10,12 @@ pub returns-in_default : goal.returns-in_default
 returns-in_default g c =
     let t = c.args.tables in
     let h : c.args.i < length (deque_items t.rw.entries) = omega (arith, t.rw.entries.ok.0, c.requires.within) in
-    record {
+    rw c.new.ensures (record {
       work = visits_stale t.sizes.pages c.args.i (g.D.Device.flash c.args.device.now) (view_of t) (view_at (deque_items t.rw.entries) c.args.i c.index.result.now Stale h c.index.ensures c.in_default.is);
       few = (omega arith, omega arith);
       sized = (refl, refl);
       logged = (refl, refl);
-    }
+    })
 
 pub settle-requires : goal.settle-requires
 settle-requires g c =

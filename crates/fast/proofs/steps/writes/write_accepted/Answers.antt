@@ -24,10 +24,10 @@ returns-then-first g c =
     let flash = g.D.Device.flash in
     let n = c.args.sector.0 in
     let s = at (flash c.args.device.now) (view_of t) in
-    record {
+    rw c.new.ensures (record {
       work = blank_written t.sizes.pages t.sizes.random n c.args.bytes.now s (flash c.write_first.new.device) (view_of t) (view_of c.stamp.result) 0 0 c.stamp.ensures.tables (sym c.if-first.true ∙ c.requires.found) c.write_first.ensures;
       sized = c.stamp.ensures.sized;
-    }
+    })
 
 pub returns : goal.returns
 returns g c =
