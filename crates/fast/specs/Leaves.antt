@@ -1,5 +1,5 @@
 -- How the code of a step is held to the scheme's: from the device and the tables before it, it leaves what the step's work leaves.
-use Rattle.std.specs.Prelude.{◌≡◌, ℕ, List, Some, None, Option}
+use Rattle.std.specs.Prelude.{◌≡◌, ℕ, Bool, true, false, List, Some, None, Option}
 use Rattle.flash.specs.Meaning.{Flash, Page, blank, holds}
 use Rattle.flash.specs.declared.device.Mark.{Mark}
 use Rattle.scheme.specs.Steps as scheme
@@ -9,12 +9,19 @@ use Rattle.fast.specs.Meaning.{view_of}
 use Rattle.fast.specs.declared.steps.Fresh.{Fresh}
 use Rattle.fast.specs.declared.steps.Page as code
 use Rattle.fast.specs.declared.steps.Step.{Step}
+use Rattle.fast.specs.declared.steps.WriteKind.TheVariants.{First, Overwrite}
+use Rattle.fast.specs.declared.steps.WriteKind.{WriteKind}
 use Rattle.fast.specs.declared.tables.Tables.{Tables}
 
 -- the page that a mark and bytes say
 abbrev pub page_told : Option Mark → List ℕ → Page
 page_told None bytes = blank
 page_told (Some m) bytes = holds m.sector.0 m.stamp bytes
+
+-- whether a write is the first of its sector
+abbrev pub is_first : WriteKind → Bool
+is_first First = true
+is_first Overwrite = false
 
 -- the page that is programmed
 abbrev pub page_made : code.Page → Page

@@ -1,5 +1,5 @@
 -- What a layer of the code means, and what its answers say in the terms of the ledger: each case with its number and its values.
-use Rattle.std.specs.Prelude.{ℕ, Bool, cond, List, Some, None, Ok, Err, codes, Option, Result, nat_lt}
+use Rattle.std.specs.Prelude.{ℕ, cond, List, Some, None, Ok, Err, codes, Option, Result, nat_lt}
 use Rattle.flash.specs.Meaning.{Flash}
 use Rattle.scheme.specs.Ledger as ledger
 use Rattle.scheme.specs.Roles.{Role, role_of}
@@ -13,6 +13,7 @@ use Rattle.fast.specs.declared.layer.Found.{Found}
 use Rattle.fast.specs.declared.layer.Layer.{Layer}
 use Rattle.fast.specs.declared.refusal.Refusal.TheVariants.{NoSuchSector, BufferNotASector, BlocksWornOut, StampsUsedUp}
 use Rattle.fast.specs.declared.refusal.Refusal.{Refusal}
+use Rattle.fast.specs.declared.steps.WriteKind.{WriteKind}
 use Rattle.fast.specs.declared.tables.Tables.{Tables}
 
 -- a device with tables, or with none
@@ -65,8 +66,8 @@ abbrev pub fit_told : Result (Unit {0}) Unfit → Option ℕ
 fit_told (Ok u) = None
 fit_told (Err e) = Some (unfit_number e)
 
-abbrev pub admitted_told : Result Bool Refusal → Option ℕ
-admitted_told (Ok first) = None
+abbrev pub admitted_told : Result WriteKind Refusal → Option ℕ
+admitted_told (Ok kind) = None
 admitted_told (Err e) = Some (refusal_number e)
 
 -- what a read found, and the buffer after it

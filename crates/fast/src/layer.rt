@@ -15,7 +15,7 @@ ghost use Rattle.scheme.specs.Ledger.{read, write, shown};
 ghost use Rattle.scheme.specs.Runs.{sectors, format, call, worn, write_refusal};
 ghost use Rattle.scheme.specs.Tables.{Tables as SchemeTables};
 ghost use Rattle.scheme.specs.Work.{seen, line, each, do_erase};
-ghost use Rattle.fast.specs.Leaves.{at};
+ghost use Rattle.fast.specs.Leaves.{at, is_first};
 ghost use Rattle.fast.specs.Meaning.{view_of};
 ghost use Rattle.fast.specs.Roles.{role_told};
 ghost use Rattle.fast.specs.Told.{meant, layer_of, role_meant, started, found_told, read_told, write_told, admitted_told};
@@ -25,6 +25,7 @@ use crate::numbers::LogicalBlock;
 use crate::refusal::Refusal;
 use crate::roles::Role;
 use crate::start::start_tables;
+use crate::steps::WriteKind;
 use crate::steps::copies::vacant;
 use crate::steps::writes::write_accepted;
 use crate::tables::{Sizes, Tables};
@@ -71,26 +72,26 @@ fn show<D: Device>(device: &D, block: Block, page: PageOffset, buffer: &mut [u8]
 }
 
 // Whether a write could wear out a block: an overwrite makes up to min(P, L) + 1 erases, a first write none.
-fn wears_out<D: Device>(device: &D, tables: &Tables, first: bool) -> bool
-    ensures { result ≡ not first && worn (meant (D.Device.flash device.now) (Some tables.now)) }
+fn wears_out<D: Device>(device: &D, tables: &Tables, kind: WriteKind) -> bool
+    ensures { result ≡ not (is_first kind) && worn (meant (D.Device.flash device.now) (Some tables.now)) }
 {
-    if first {
-        return false;
+    match kind {
+        WriteKind::First => false,
+        WriteKind::Overwrite => worn(device, tables.sizes.pages.min(tables.sizes.logical) + 1),
     }
-    worn(device, tables.sizes.pages.min(tables.sizes.logical) + 1)
 }
 
-// Whether a write may go on; if so, whether it is the first of its sector.
+// Whether a write may go on; if so, which kind it is.
 fn admit<D: Device>(
     device: &D,
     tables: &Tables,
     sector: Sector,
     bytes: &[u8],
-) -> Result<bool, Refusal>
+) -> Result<WriteKind, Refusal>
     ensures refusal { admitted_told result ≡ write_refusal (meant (D.Device.flash device.now) (Some tables.now)) sector.0 bytes.now }
     ensures known { OnOk result (sector.0 < tables.now.sizes.logical * tables.now.sizes.pages) }
     ensures left { OnOk result (tables.now.next < 0xFFFFFFFF) }
-    ensures found { IfOk result (λ first. first ≡ is_blank (seen (D.Device.flash device.now) ((view_of tables.now).data_block (sector.0 / tables.now.sizes.pages)) (sector.0 % tables.now.sizes.pages))) }
+    ensures found { IfOk result (λ kind. is_first kind ≡ is_blank (seen (D.Device.flash device.now) ((view_of tables.now).data_block (sector.0 / tables.now.sizes.pages)) (sector.0 % tables.now.sizes.pages))) }
 {
     let sizes = &tables.sizes;
     if sector.0 >= sizes.sectors() {
@@ -100,14 +101,18 @@ fn admit<D: Device>(
         return Err(Refusal::BufferNotASector);
     }
     let block = tables.map[(sector.0 / sizes.pages) as usize];
-    let first = vacant(device, block, PageOffset(sector.0 % sizes.pages));
-    if wears_out(device, tables, first) {
+    let kind = if vacant(device, block, PageOffset(sector.0 % sizes.pages)) {
+        WriteKind::First
+    } else {
+        WriteKind::Overwrite
+    };
+    if wears_out(device, tables, kind) {
         return Err(Refusal::BlocksWornOut);
     }
     if tables.next == 0xFFFF_FFFF {
         return Err(Refusal::StampsUsedUp);
     }
-    Ok(first)
+    Ok(kind)
 }
 
 impl<D: Device> Layer<D> {
@@ -183,9 +188,7 @@ impl<D: Device> Layer<D> {
         ensures reply { read_told result buffer.new ≡ (call (layer_of D.Device.flash self.now) (read sector.0 buffer.old)).reply }
         ensures law { Lawful (layer_of D.Device.flash self.now) (read sector.0 buffer.old) (read_told result buffer.new) (layer_of D.Device.flash self.now) }
     {
-        let Some(tables) = &self.tables else {
-            return Err(Refusal::NoSuchSector);
-        };
+        let tables = self.tables.as_ref().ok_or(Refusal::NoSuchSector)?;
         let sizes = &tables.sizes;
         if sector.0 >= sizes.sectors() {
             return Err(Refusal::NoSuchSector);
@@ -204,16 +207,14 @@ impl<D: Device> Layer<D> {
         ensures after { layer_of D.Device.flash self.new ≡ (call (layer_of D.Device.flash self.old) (write sector.0 bytes.now)).after }
         ensures law { Lawful (layer_of D.Device.flash self.old) (write sector.0 bytes.now) (write_told result bytes.now) (layer_of D.Device.flash self.new) }
     {
-        let Some(tables) = self.tables.take() else {
-            return Err(Refusal::NoSuchSector);
-        };
+        let tables = self.tables.take().ok_or(Refusal::NoSuchSector)?;
         match admit(&self.device, &tables, sector, bytes) {
             Err(refusal) => {
                 self.tables = Some(tables);
                 Err(refusal)
             }
-            Ok(first) => {
-                let step = write_accepted(&mut self.device, tables, first, sector, bytes);
+            Ok(kind) => {
+                let step = write_accepted(&mut self.device, tables, kind, sector, bytes);
                 self.tables = Some(step.tables);
                 Ok((step.erases, step.copies))
             }

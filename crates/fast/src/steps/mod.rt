@@ -36,6 +36,13 @@ impl Step {
     }
 }
 
+// Whether a write is the first of its sector, or goes over bytes that are there.
+#[derive(Clone, Copy, PartialEq, Eq, Debug)]
+pub(crate) enum WriteKind {
+    First,
+    Overwrite,
+}
+
 // What a page is programmed with.
 #[derive(Clone, Copy)]
 pub(crate) struct Page<'a> {

@@ -6,13 +6,13 @@ ghost use Rattle.std.specs.VecDeque.{deque_len};
 ghost use Rattle.flash.specs.Calls.{is_blank};
 ghost use Rattle.scheme.specs.Steps.{write_first, open_sequential, settle_owner, write_start, append_sequential, write_sequential, visit, reclaim, thinned, make_room, append_random, write_random, overwrite, write};
 ghost use Rattle.scheme.specs.Work.{each, seen};
-ghost use Rattle.fast.specs.Leaves.{page_made, Does, Writes};
+ghost use Rattle.fast.specs.Leaves.{page_made, is_first, Does, Writes};
 ghost use Rattle.fast.specs.Meaning.{view_of, Sized, Logged};
 ghost use Rattle.fast.specs.Views.{sequential_of};
 
 use crate::numbers::LogicalBlock;
 use crate::steps::merges::{merge_over, merge_sw, settle};
-use crate::steps::{Fresh, Page, Step};
+use crate::steps::{Fresh, Page, Step, WriteKind};
 use crate::tables::Tables;
 use crate::tables::random::Entry;
 use crate::tables::sequential::Sw;
@@ -273,17 +273,17 @@ fn write_first<D: Device>(
     let _ = device.program(tables.map[b.0 as usize], o, page.mark, page.bytes);
 }
 
-// An accepted write, which uses the next stamp. `first` says whether the sector's data page is blank, as the checks found it.
+// An accepted write, which uses the next stamp. Its kind says whether the sector's data page is blank, as the checks found it.
 pub(crate) fn write_accepted<D: Device>(
     device: &mut D,
     tables: Tables,
-    first: bool,
+    kind: WriteKind,
     sector: Sector,
     bytes: &[u8],
 ) -> Step
     requires known { sector.0 < tables.sizes.logical * tables.sizes.pages }
     requires left { tables.next < 0xFFFFFFFF }
-    requires found { first ≡ is_blank (seen (D.Device.flash device.old) ((view_of tables).data_block (sector.0 / tables.sizes.pages)) (sector.0 % tables.sizes.pages)) }
+    requires found { is_first kind ≡ is_blank (seen (D.Device.flash device.old) ((view_of tables).data_block (sector.0 / tables.sizes.pages)) (sector.0 % tables.sizes.pages)) }
     ensures work { Does D.Device.flash (write tables.sizes.pages tables.sizes.random sector.0 bytes.now) device.old tables device.new result }
     ensures sized { result.tables.sizes ≡ tables.sizes }
 {
@@ -296,18 +296,22 @@ pub(crate) fn write_accepted<D: Device>(
         },
         bytes,
     };
-    if first {
-        write_first(device, &tables, b, o, page);
-        return Step::new(tables.stamp());
-    }
-    let Step {
-        tables,
-        erases,
-        copies,
-    } = overwrite(device, tables, b, o, page);
-    Step {
-        tables: tables.stamp(),
-        erases,
-        copies,
+    match kind {
+        WriteKind::First => {
+            write_first(device, &tables, b, o, page);
+            Step::new(tables.stamp())
+        }
+        WriteKind::Overwrite => {
+            let Step {
+                tables,
+                erases,
+                copies,
+            } = overwrite(device, tables, b, o, page);
+            Step {
+                tables: tables.stamp(),
+                erases,
+                copies,
+            }
+        }
     }
 }
