@@ -5,7 +5,7 @@ use Rattle.flash.specs.declared.device.Mark.{Mark}
 use Rattle.scheme.specs.Steps as scheme
 use Rattle.scheme.specs.Tables.{Tables as SchemeTables}
 use Rattle.scheme.specs.Work.{State, Work}
-use Rattle.fast.specs.Meaning.{view_of}
+use Rattle.fast.specs.Meaning.{view_of, Sized}
 use Rattle.fast.specs.declared.steps.Fresh.{Fresh}
 use Rattle.fast.specs.declared.steps.Page as code
 use Rattle.fast.specs.declared.steps.Step.{Step}
@@ -58,3 +58,12 @@ module _ {D : Type 0} (flash : D → Flash) (work : State → Work) (before : D)
   -- It copies so many pages, and leaves the tables alone.
   abbrev pub Carries : ℕ → Type 0
   Carries n = Copied (work (at (flash before) (view_of t))) (flash after) n
+
+  -- The step does the work, and leaves the layer as large and the next stamp the same.
+  pub record DoesSized (step : Step) : Type 0 where
+    pub does : Does step
+    pub sized : Sized step.tables t
+
+  pub record WritesSized (u : Tables) : Type 0 where
+    pub writes : Writes u
+    pub sized : Sized u t

@@ -7,8 +7,8 @@ ghost use Rattle.std.specs.Prelude.{◌≡◌, ◌<◌, ◌≤◌, [], ◌∷◌
 ghost use Rattle.scheme.specs.Roles.{finished};
 ghost use Rattle.scheme.specs.Steps.{merge, merge_free, settle};
 ghost use Rattle.scheme.specs.Tables.{owned};
-ghost use Rattle.fast.specs.Leaves.{fresh_view, Does};
-ghost use Rattle.fast.specs.Meaning.{view_of, Sized, Logged};
+ghost use Rattle.fast.specs.Leaves.{fresh_view, DoesSized};
+ghost use Rattle.fast.specs.Meaning.{view_of, Logged};
 ghost use Rattle.fast.specs.Views.{sw_view};
 
 use crate::numbers::LogicalBlock;
@@ -27,9 +27,8 @@ fn merge_free<D: Device>(
 ) -> Step
     requires known { c.0 < tables.sizes.logical }
     requires unowned { owned c.0 (sw_view tables.sw) ≡ None }
-    ensures work { Does D.Device.flash (merge_free tables.sizes.pages (fresh_view fresh.entry) c.0 (view_of tables).free ((view_of tables).data_block c.0 ∷ [])) device.old tables device.new result }
+    ensures work { DoesSized D.Device.flash (merge_free tables.sizes.pages (fresh_view fresh.entry) c.0 (view_of tables).free ((view_of tables).data_block c.0 ∷ [])) device.old tables device.new result }
     ensures few { (result.erases ≤ 1) × (result.copies ≤ tables.sizes.pages) }
-    ensures sized { Sized result.tables tables }
     ensures logged { Logged result.tables tables }
 {
     let Some(to) = tables.free.front() else {
@@ -53,10 +52,9 @@ pub(crate) fn merge_sw<D: Device>(
     sw: Sw,
 ) -> Step
     requires has { tables.sw ≡ Some sw }
-    ensures work { Does D.Device.flash (merge tables.sizes.pages finished (fresh_view fresh.entry) sw.owner.0 sw.block.0 sw.fill (view_of tables).free ((view_of tables).data_block sw.owner.0 ∷ [])) device.old tables device.new result }
+    ensures work { DoesSized D.Device.flash (merge tables.sizes.pages finished (fresh_view fresh.entry) sw.owner.0 sw.block.0 sw.fill (view_of tables).free ((view_of tables).data_block sw.owner.0 ∷ [])) device.old tables device.new result }
     ensures few { (result.erases ≤ 1) × (result.copies ≤ tables.sizes.pages) }
     ensures none { result.tables.sw ≡ None }
-    ensures sized { Sized result.tables tables }
     ensures logged { Logged result.tables tables }
 {
     let copies = carry_from(device, &tables, fresh, sw.owner, sw.block, sw.fill);
@@ -77,9 +75,8 @@ pub(crate) fn merge_over<D: Device>(
     sw: Sw,
 ) -> Step
     requires has { tables.sw ≡ Some sw }
-    ensures work { Does D.Device.flash (merge_free tables.sizes.pages (fresh_view fresh.entry) sw.owner.0 (view_of tables).free ((view_of tables).data_block sw.owner.0 ∷ sw.block.0 ∷ [])) device.old tables device.new result }
+    ensures work { DoesSized D.Device.flash (merge_free tables.sizes.pages (fresh_view fresh.entry) sw.owner.0 (view_of tables).free ((view_of tables).data_block sw.owner.0 ∷ sw.block.0 ∷ [])) device.old tables device.new result }
     ensures few { (result.erases ≤ 2) × (result.copies ≤ tables.sizes.pages) }
-    ensures sized { Sized result.tables tables }
 {
     let Some(to) = tables.free.front() else {
         return Step::new(tables);
@@ -103,9 +100,8 @@ pub(crate) fn settle<D: Device>(
     c: LogicalBlock,
 ) -> Step
     requires known { c.0 < tables.sizes.logical }
-    ensures work { Does D.Device.flash (settle tables.sizes.pages (fresh_view fresh.entry) c.0) device.old tables device.new result }
+    ensures work { DoesSized D.Device.flash (settle tables.sizes.pages (fresh_view fresh.entry) c.0) device.old tables device.new result }
     ensures few { (result.erases ≤ 1) × (result.copies ≤ tables.sizes.pages) }
-    ensures sized { Sized result.tables tables }
     ensures logged { Logged result.tables tables }
 {
     match tables.owned(c) {

@@ -6,8 +6,8 @@ ghost use Rattle.std.specs.VecDeque.{deque_len};
 ghost use Rattle.flash.specs.Calls.{is_blank};
 ghost use Rattle.scheme.specs.Steps.{write_first, open_sequential, settle_owner, write_start, append_sequential, write_sequential, visit, reclaim, thinned, make_room, append_random, write_random, overwrite, write};
 ghost use Rattle.scheme.specs.Work.{each, seen};
-ghost use Rattle.fast.specs.Leaves.{page_made, is_first, Does, Writes};
-ghost use Rattle.fast.specs.Meaning.{view_of, Sized, Logged};
+ghost use Rattle.fast.specs.Leaves.{page_made, is_first, Does, Writes, DoesSized, WritesSized};
+ghost use Rattle.fast.specs.Meaning.{view_of, Logged};
 ghost use Rattle.fast.specs.Views.{sequential_of};
 
 use crate::numbers::LogicalBlock;
@@ -23,8 +23,7 @@ use flash::numbers::{PageOffset, Sector};
 fn open_sw<D: Device>(device: &mut D, tables: Tables, b: LogicalBlock, page: Page) -> Tables
     requires known { b.0 < tables.sizes.logical }
     requires none { tables.sw ≡ None }
-    ensures work { Writes D.Device.flash (open_sequential tables.sizes.pages b.0 (page_made page.entry) (view_of tables).free) device.old tables device.new result }
-    ensures sized { Sized result tables }
+    ensures work { WritesSized D.Device.flash (open_sequential tables.sizes.pages b.0 (page_made page.entry) (view_of tables).free) device.old tables device.new result }
 {
     let Some(to) = tables.free.front() else {
         return tables;
@@ -35,9 +34,8 @@ fn open_sw<D: Device>(device: &mut D, tables: Tables, b: LogicalBlock, page: Pag
 
 // Settles the owner of the sequential log block, if there is one.
 fn settle_owner<D: Device>(device: &mut D, tables: Tables) -> Step
-    ensures work { Does D.Device.flash (settle_owner tables.sizes.pages (view_of tables).sequential) device.old tables device.new result }
+    ensures work { DoesSized D.Device.flash (settle_owner tables.sizes.pages (view_of tables).sequential) device.old tables device.new result }
     ensures few { (result.erases ≤ 1) × (result.copies ≤ tables.sizes.pages) }
-    ensures sized { Sized result.tables tables }
     ensures none { result.tables.sw ≡ None }
 {
     let Some(sw) = tables.sw else {
@@ -49,8 +47,7 @@ fn settle_owner<D: Device>(device: &mut D, tables: Tables) -> Step
 // W1: an overwrite of offset 0. The owner is settled even if it is b itself: its log begins anew.
 fn write_start<D: Device>(device: &mut D, tables: Tables, b: LogicalBlock, page: Page) -> Step
     requires known { b.0 < tables.sizes.logical }
-    ensures work { Does D.Device.flash (write_start tables.sizes.pages b.0 (page_made page.entry)) device.old tables device.new result }
-    ensures sized { Sized result.tables tables }
+    ensures work { DoesSized D.Device.flash (write_start tables.sizes.pages b.0 (page_made page.entry)) device.old tables device.new result }
 {
     let Step {
         tables,
@@ -68,8 +65,7 @@ fn write_start<D: Device>(device: &mut D, tables: Tables, b: LogicalBlock, page:
 fn append_sw<D: Device>(device: &mut D, tables: Tables, sw: Sw, page: Page) -> Tables
     requires has { tables.sw ≡ Some sw }
     requires short { sw.fill < tables.sizes.pages }
-    ensures work { Writes D.Device.flash (append_sequential tables.sizes.pages page.entry.mark.sector.0 sw.fill (page_made page.entry) (sequential_of sw)) device.old tables device.new result }
-    ensures sized { Sized result tables }
+    ensures work { WritesSized D.Device.flash (append_sequential tables.sizes.pages page.entry.mark.sector.0 sw.fill (page_made page.entry) (sequential_of sw)) device.old tables device.new result }
 {
     let _ = device.program(sw.block, PageOffset(sw.fill), page.mark, page.bytes);
     tables.extend(sw, page.mark.sector)
@@ -85,8 +81,7 @@ fn write_sequential<D: Device>(
 ) -> Step
     requires has { tables.sw ≡ Some sw }
     requires fits { o.0 < tables.sizes.pages }
-    ensures work { Does D.Device.flash (write_sequential tables.sizes.pages page.entry.mark.sector.0 sw.owner.0 o.0 (page_made page.entry) (sequential_of sw)) device.old tables device.new result }
-    ensures sized { Sized result.tables tables }
+    ensures work { DoesSized D.Device.flash (write_sequential tables.sizes.pages page.entry.mark.sector.0 sw.owner.0 o.0 (page_made page.entry) (sequential_of sw)) device.old tables device.new result }
 {
     if o.0 == sw.fill {
         return Step::new(append_sw(device, tables, sw, page));
@@ -101,9 +96,8 @@ fn write_sequential<D: Device>(
 // One entry of the victim: a live one has its logical block settled.
 fn visit<D: Device>(device: &mut D, tables: Tables, i: u32) -> Step
     requires within { i < deque_len tables.rw.entries }
-    ensures work { Does D.Device.flash (visit tables.sizes.pages i) device.old tables device.new result }
+    ensures work { DoesSized D.Device.flash (visit tables.sizes.pages i) device.old tables device.new result }
     ensures few { (result.erases ≤ 1) × (result.copies ≤ tables.sizes.pages) }
-    ensures sized { Sized result.tables tables }
     ensures logged { Logged result.tables tables }
 {
     let Entry::Live(sector) = tables.rw.entries[i as usize] else {
@@ -116,9 +110,8 @@ fn visit<D: Device>(device: &mut D, tables: Tables, i: u32) -> Step
 // Visits every entry of the victim in page order. Each is looked up when its turn comes, for an earlier settle may have made it stale.
 fn visit_all<D: Device>(device: &mut D, tables: Tables) -> Step
     requires long { tables.sizes.pages ≤ deque_len tables.rw.entries }
-    ensures work { Does D.Device.flash (each (visit tables.sizes.pages) 0 tables.sizes.pages) device.old tables device.new result }
+    ensures work { DoesSized D.Device.flash (each (visit tables.sizes.pages) 0 tables.sizes.pages) device.old tables device.new result }
     ensures few { (result.erases ≤ tables.sizes.pages) × (result.copies ≤ tables.sizes.pages * tables.sizes.pages) }
-    ensures sized { Sized result.tables tables }
     ensures logged { Logged result.tables tables }
 {
     let pages = tables.sizes.pages;
@@ -142,9 +135,8 @@ fn visit_all<D: Device>(device: &mut D, tables: Tables) -> Step
 fn reclaim<D: Device>(device: &mut D, tables: Tables) -> Step
     requires some { 0 < deque_len tables.rw.blocks }
     requires full { tables.sizes.pages * deque_len tables.rw.blocks ≤ deque_len tables.rw.entries }
-    ensures work { Does D.Device.flash (reclaim tables.sizes.pages) device.old tables device.new result }
+    ensures work { DoesSized D.Device.flash (reclaim tables.sizes.pages) device.old tables device.new result }
     ensures few { (result.erases ≤ tables.sizes.pages + 1) × (result.copies ≤ tables.sizes.pages * tables.sizes.pages) }
-    ensures sized { Sized result.tables tables }
     ensures logs { deque_len result.tables.rw.blocks + 1 ≡ deque_len tables.rw.blocks }
     ensures entries { deque_len result.tables.rw.entries ≡ deque_len tables.rw.entries - tables.sizes.pages }
 {
@@ -165,9 +157,8 @@ fn reclaim<D: Device>(device: &mut D, tables: Tables) -> Step
 // Makes fewer random log blocks than there may be, where all are full.
 fn thin<D: Device>(device: &mut D, tables: Tables) -> Step
     requires full { tables.sizes.pages * deque_len tables.rw.blocks ≤ deque_len tables.rw.entries }
-    ensures work { Does D.Device.flash (thinned tables.sizes.pages tables.sizes.random) device.old tables device.new result }
+    ensures work { DoesSized D.Device.flash (thinned tables.sizes.pages tables.sizes.random) device.old tables device.new result }
     ensures few { (result.erases ≤ tables.sizes.pages + 1) × (result.copies ≤ tables.sizes.pages * tables.sizes.pages) }
-    ensures sized { Sized result.tables tables }
     ensures fewer { deque_len result.tables.rw.blocks < result.tables.sizes.random }
     ensures full { result.tables.sizes.pages * deque_len result.tables.rw.blocks ≤ deque_len result.tables.rw.entries }
 {
@@ -179,9 +170,8 @@ fn thin<D: Device>(device: &mut D, tables: Tables) -> Step
 
 // Makes sure that the last random log block has a blank page.
 fn make_room<D: Device>(device: &mut D, tables: Tables) -> Step
-    ensures work { Does D.Device.flash (make_room tables.sizes.pages tables.sizes.random) device.old tables device.new result }
+    ensures work { DoesSized D.Device.flash (make_room tables.sizes.pages tables.sizes.random) device.old tables device.new result }
     ensures few { (result.erases ≤ tables.sizes.pages + 1) × (result.copies ≤ tables.sizes.pages * tables.sizes.pages) }
-    ensures sized { Sized result.tables tables }
     ensures room { deque_len result.tables.rw.entries < result.tables.sizes.pages * deque_len result.tables.rw.blocks }
 {
     if tables.rw.entries.len() < tables.sizes.pages as usize * tables.rw.blocks.len() {
@@ -203,8 +193,7 @@ fn make_room<D: Device>(device: &mut D, tables: Tables) -> Step
 fn append_rw<D: Device>(device: &mut D, tables: Tables, page: Page) -> Tables
     requires known { page.mark.sector.0 < tables.sizes.logical * tables.sizes.pages }
     requires room { deque_len tables.rw.entries < tables.sizes.pages * deque_len tables.rw.blocks }
-    ensures work { Writes D.Device.flash (append_random tables.sizes.pages page.entry.mark.sector.0 (page_made page.entry)) device.old tables device.new result }
-    ensures sized { Sized result tables }
+    ensures work { WritesSized D.Device.flash (append_random tables.sizes.pages page.entry.mark.sector.0 (page_made page.entry)) device.old tables device.new result }
 {
     let used = tables.rw.entries.len();
     let pages = tables.sizes.pages as usize;
@@ -221,8 +210,7 @@ fn append_rw<D: Device>(device: &mut D, tables: Tables, page: Page) -> Tables
 // W3: an overwrite of an offset other than 0, of a block that does not own the sequential log block.
 fn write_random<D: Device>(device: &mut D, tables: Tables, page: Page) -> Step
     requires known { page.mark.sector.0 < tables.sizes.logical * tables.sizes.pages }
-    ensures work { Does D.Device.flash (write_random tables.sizes.pages tables.sizes.random page.entry.mark.sector.0 (page_made page.entry)) device.old tables device.new result }
-    ensures sized { Sized result.tables tables }
+    ensures work { DoesSized D.Device.flash (write_random tables.sizes.pages tables.sizes.random page.entry.mark.sector.0 (page_made page.entry)) device.old tables device.new result }
 {
     let Step {
         tables,
@@ -247,8 +235,7 @@ fn overwrite<D: Device>(
     requires known { b.0 < tables.sizes.logical }
     requires fits { o.0 < tables.sizes.pages }
     requires sector { page.mark.sector.0 < tables.sizes.logical * tables.sizes.pages }
-    ensures work { Does D.Device.flash (overwrite tables.sizes.pages tables.sizes.random page.entry.mark.sector.0 b.0 o.0 (page_made page.entry)) device.old tables device.new result }
-    ensures sized { Sized result.tables tables }
+    ensures work { DoesSized D.Device.flash (overwrite tables.sizes.pages tables.sizes.random page.entry.mark.sector.0 b.0 o.0 (page_made page.entry)) device.old tables device.new result }
 {
     if o.0 == 0 {
         return write_start(device, tables, b, page);

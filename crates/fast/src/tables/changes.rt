@@ -1,6 +1,9 @@
 // The changes of the tables, each made whole: which blocks change their role is said by the clause `roles`, through the match of role and
 // event. The tables are taken apart by a pattern, their parts change in place, and a literal makes them again, which owes every rule of the
 // tables once. A block that is given up goes to the back of the free list here; the caller erases it before anything else.
+//
+// `sized` stands beside each equation `tables`: what the tables mean says nothing of the sizes, and one definition of both would hide the
+// equation.
 
 ghost use Rattle.std.specs.Prelude.{◌≡◌, ◌+◌, ◌-◌, ◌*◌, ◌<◌, ◌≤◌, [], ◌∷◌, ◌++◌, drop, Some, None, nat_eq, slice_index};
 ghost use Rattle.std.specs.VecDeque.{deque_len};

@@ -27,9 +27,11 @@ returns g c =
     let lens : m ≡ length (entries_view (deque_items t.rw.entries)) = c.len-used.ensures ∙ t.rw.entries.ok.0 ∙ sym (length_views (deque_items t.rw.entries)) in
     let b = get_or_numbers (deque_items t.rw.blocks) (m / t.sizes.pages) c.index-block.result.now h c.index-block.ensures in
     record {
-      work =
-          appended t.sizes.pages c.args.page.mark.sector.0 x (flash c.args.device.now) (flash c.program.new.self) (view_of t) (view_of c.note.result)
-          (c.program.ensures.after ∙ ap₂ (λ b p. put_page (flash c.args.device.now) b p x) (b ∙ ap (λ n. get_or (numbers (deque_items t.rw.blocks)) (n / t.sizes.pages) 0) lens) (ap (λ n. n % t.sizes.pages) lens))
-          c.note.ensures.tables;
-      sized = c.note.ensures.sized;
+      work = record {
+        writes =
+            appended t.sizes.pages c.args.page.mark.sector.0 x (flash c.args.device.now) (flash c.program.new.self) (view_of t) (view_of c.note.result)
+            (c.program.ensures.after ∙ ap₂ (λ b p. put_page (flash c.args.device.now) b p x) (b ∙ ap (λ n. get_or (numbers (deque_items t.rw.blocks)) (n / t.sizes.pages) 0) lens) (ap (λ n. n % t.sizes.pages) lens))
+            c.note.ensures.tables;
+        sized = c.note.ensures.sized;
+      };
     }

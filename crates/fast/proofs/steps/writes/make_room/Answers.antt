@@ -14,9 +14,8 @@ returns-then-len-tables g c =
     let took = ap (λ n. t.sizes.pages * n) c.len-2.ensures in
     let h : length (entries_view (deque_items t.rw.entries)) < t.sizes.pages * length (numbers (deque_items t.rw.blocks)) = omega (arith, lens, took, length_views (deque_items t.rw.entries), t.rw.entries.ok.0, c.len.ensures, c.if-len-tables.true) in
     rw c.new.ensures (record {
-      work = room_already t.sizes.pages t.sizes.random (g.D.Device.flash c.args.device.now) (view_of t) h;
+      work = record { does = room_already t.sizes.pages t.sizes.random (g.D.Device.flash c.args.device.now) (view_of t) h; sized = (refl, refl) };
       few = (omega arith, omega arith);
-      sized = (refl, refl);
       room = omega (arith, took, c.len.ensures, c.if-len-tables.true);
     })
 
@@ -32,8 +31,7 @@ returns g c =
     let h : t.sizes.pages * length (numbers (deque_items t.rw.blocks)) ≤ length (entries_view (deque_items t.rw.entries)) = omega (arith, lens, took, length_views (deque_items t.rw.entries), t.rw.entries.ok.0, c.len.ensures, c.if-len-tables.false) in
     let some : 0 < length (numbers (deque_items v.free.blocks)) = omega (arith, length_numbers (deque_items v.free.blocks), v.free.blocks.ok.0, v.all_blocks, v.sizes.blocks_fit, d.fewer, busy_few v.sw) in
     record {
-      work = room_made t.sizes.pages t.sizes.random (at (flash c.args.device.now) (view_of t)) (flash c.thin-tables.new.device) (view_of v) (view_of c.take_log.result) _ _ h d.work some r.tables;
+      work = record { does = room_made t.sizes.pages t.sizes.random (at (flash c.args.device.now) (view_of t)) (flash c.thin-tables.new.device) (view_of v) (view_of c.take_log.result) _ _ h d.work.does some r.tables; sized = (r.sized.0 ∙ d.work.sized.0, r.sized.1 ∙ d.work.sized.1) };
       few = d.few;
-      sized = (r.sized.0 ∙ d.sized.0, r.sized.1 ∙ d.sized.1);
       room = r.room;
     }

@@ -13,8 +13,7 @@ returns-then-o-eq0 g c =
     let x = page_made c.args.page in
     let s = at (flash c.args.device.now) (view_of t) in
     record {
-      work = over_start t.sizes.pages t.sizes.random n c.args.b.0 c.args.o.0 x s (flash c.write_start.new.device) (view_of c.write_start.result.tables) _ _ c.if-o-eq0.true c.write_start.ensures.work;
-      sized = c.write_start.ensures.sized;
+      work = record { does = over_start t.sizes.pages t.sizes.random n c.args.b.0 c.args.o.0 x s (flash c.write_start.new.device) (view_of c.write_start.result.tables) _ _ c.if-o-eq0.true c.write_start.ensures.work.does; sized = c.write_start.ensures.work.sized };
     }
 
 pub returns-in-Some : goal.returns-in-Some
@@ -26,8 +25,7 @@ returns-in-Some g c =
     let s = at (flash c.args.device.now) (view_of t) in
     let has = c.in-Some.ensures.has in
     record {
-      work = over_owned t.sizes.pages t.sizes.random n c.args.b.0 c.args.o.0 x s (flash c.write_sequential.new.device) (view_of c.write_sequential.result.tables) _ _ c.if-o-eq0.false (sequential_of c.in-Some.sw) (sym c.in-Some.ensures.view) has.1 c.write_sequential.ensures.work;
-      sized = c.write_sequential.ensures.sized;
+      work = record { does = over_owned t.sizes.pages t.sizes.random n c.args.b.0 c.args.o.0 x s (flash c.write_sequential.new.device) (view_of c.write_sequential.result.tables) _ _ c.if-o-eq0.false (sequential_of c.in-Some.sw) (sym c.in-Some.ensures.view) has.1 c.write_sequential.ensures.work.does; sized = c.write_sequential.ensures.work.sized };
     }
 
 pub returns-in-None : goal.returns-in-None
@@ -38,6 +36,5 @@ returns-in-None g c =
     let x = page_made c.args.page in
     let s = at (flash c.args.device.now) (view_of t) in
     record {
-      work = over_random t.sizes.pages t.sizes.random n c.args.b.0 c.args.o.0 x s (flash c.write_random.new.device) (view_of c.write_random.result.tables) _ _ c.if-o-eq0.false (sym c.in-None.ensures.view) c.write_random.ensures.work;
-      sized = c.write_random.ensures.sized;
+      work = record { does = over_random t.sizes.pages t.sizes.random n c.args.b.0 c.args.o.0 x s (flash c.write_random.new.device) (view_of c.write_random.result.tables) _ _ c.if-o-eq0.false (sym c.in-None.ensures.view) c.write_random.ensures.work.does; sized = c.write_random.ensures.work.sized };
     }

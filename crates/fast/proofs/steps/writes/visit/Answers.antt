@@ -11,9 +11,8 @@ returns-in_default g c =
     let t = c.args.tables in
     let h : c.args.i < length (deque_items t.rw.entries) = omega (arith, t.rw.entries.ok.0, c.requires.within) in
     rw c.new.ensures (record {
-      work = visits_stale t.sizes.pages c.args.i (g.D.Device.flash c.args.device.now) (view_of t) (view_at (deque_items t.rw.entries) c.args.i c.index.result.now Stale h c.index.ensures c.in_default.is);
+      work = record { does = visits_stale t.sizes.pages c.args.i (g.D.Device.flash c.args.device.now) (view_of t) (view_at (deque_items t.rw.entries) c.args.i c.index.result.now Stale h c.index.ensures c.in_default.is); sized = (refl, refl) };
       few = (omega arith, omega arith);
-      sized = (refl, refl);
       logged = (refl, refl);
     })
 
@@ -32,8 +31,7 @@ returns g c =
     let flash = g.D.Device.flash in
     let d = c.settle.ensures in
     record {
-      work = visits_live t.sizes.pages c.args.i (at (flash c.args.device.now) (view_of t)) c.in-Live.sector.0 (flash c.settle.new.device) (view_of c.settle.result.tables) _ _ (view_at (deque_items t.rw.entries) c.args.i c.index.result.now (Live c.in-Live.sector) h c.index.ensures c.in-Live.is) d.work;
+      work = record { does = visits_live t.sizes.pages c.args.i (at (flash c.args.device.now) (view_of t)) c.in-Live.sector.0 (flash c.settle.new.device) (view_of c.settle.result.tables) _ _ (view_at (deque_items t.rw.entries) c.args.i c.index.result.now (Live c.in-Live.sector) h c.index.ensures c.in-Live.is) d.work.does; sized = d.work.sized };
       few = d.few;
-      sized = d.sized;
       logged = d.logged;
     }

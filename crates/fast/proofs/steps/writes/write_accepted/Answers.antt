@@ -17,4 +17,4 @@ returns-in-Overwrite-clause-work g c =
     let flash = g.D.Device.flash in
     let s = at (flash c.args.device.now) (view_of t) in
     let u = c.overwrite-tables.result.tables in
-    used_written t.sizes.pages t.sizes.random c.args.sector.0 c.args.bytes.now s (flash c.overwrite-tables.new.device) (view_of u) (view_of c.stamp-in-Overwrite.result) _ _ c.stamp-in-Overwrite.ensures.tables (sym (ap is_first c.in-Overwrite.is) ∙ c.requires.found) c.overwrite-tables.ensures.work
+    used_written t.sizes.pages t.sizes.random c.args.sector.0 c.args.bytes.now s (flash c.overwrite-tables.new.device) (view_of u) (view_of c.stamp-in-Overwrite.result) _ _ c.stamp-in-Overwrite.ensures.tables (sym (ap is_first c.in-Overwrite.is) ∙ c.requires.found) c.overwrite-tables.ensures.work.does
