@@ -12,6 +12,7 @@ ghost use Rattle.store.specs.Meaning.{Table};
 use chips::blank::{NoImage, blank_image};
 use chips::module::{LEFT_BLOCKS, RIGHT_BLOCKS, two_chips};
 use console::respond::respond;
+use fast::fit::Plan;
 use fast::layer::Layer;
 use flash::chip::ImageChip;
 use flash::device::Device;
@@ -37,7 +38,12 @@ pub fn respond_fresh<D: Device + Drop>(
     ensures prints { IfOk result (λ out. length input.now ≤ 65536 → (u : Table) × Prints (layer_table (format (started (D.Device.flash device) 4 2 1))) 1 (lines input.now) out.items u) }
     ensures refuses { IfOk result (λ out. 65536 < length input.now → out.items ≡ codes "too long" ++ (10 ∷ [])) }
 {
-    match Layer::format(heap, device, LOGICAL, RANDOM, FIRST_STAMP) {
+    let plan = Plan {
+        logical: LOGICAL,
+        random: RANDOM,
+        first_stamp: FIRST_STAMP,
+    };
+    match Layer::format(heap, device, plan) {
         Err((_, error)) => Err(error),
         Ok(mut layer) => respond(heap, &mut layer, input),
     }

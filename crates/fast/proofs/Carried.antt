@@ -8,7 +8,7 @@ use Rattle.scheme.specs.Roles.{Event, taken_as_data, finished}
 use Rattle.scheme.specs.Steps.{Fresh, transfer, seen_of, merge, merge_free, merged, settle}
 use Rattle.scheme.specs.Tables.{Tables, owned}
 use Rattle.scheme.specs.Work.{State, Work, each, do_copy, do_program, put_page}
-use Rattle.fast.specs.Leaves.{at, Copied, Left, fresh_view}
+use Rattle.fast.specs.Leaves.{at, Copied, Left, page_made, fresh_view}
 use Rattle.fast.specs.Views.{numbers, first_of, sw_view}
 use Rattle.fast.specs.declared.steps.Fresh as code
 use Rattle.fast.specs.declared.tables.sequential.Sw.{Sw}
@@ -135,6 +135,6 @@ unfolding settle
 settles_free P fresh c s f u e n i left = rw (settle, i) left
 
 -- the new page programmed
-pub carries_fresh : (P : ℕ) (q : Option code.Fresh) (x : code.Fresh) (bytes : List ℕ) (c to o : ℕ) (s : State) (f : Flash) → q ≡ Some x → o ≡ x.offset.0
-    → f ≡ put_page s.flash to o (holds x.mark.sector.0 x.mark.stamp bytes) → Copied (transfer P (fresh_view q bytes) c to o s) f 0
-carries_fresh P q x bytes c to o s f has here e = rw (has, transfer, eq-eqb o x.offset.0 here) (record { flash = e; copied = refl })
+pub carries_fresh : (P : ℕ) (q : Option code.Fresh) (x : code.Fresh) (c to o : ℕ) (s : State) (f : Flash) → q ≡ Some x → o ≡ x.offset.0
+    → f ≡ put_page s.flash to o (page_made x.page) → Copied (transfer P (fresh_view q) c to o s) f 0
+carries_fresh P q x c to o s f has here e = rw (has, transfer, eq-eqb o x.offset.0 here) (record { flash = e; copied = refl })

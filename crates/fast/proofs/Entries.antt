@@ -1,10 +1,11 @@
 -- The code's entries and the steps'.
-use Rattle.std.proofs.Common.{◌≡◌, ℕ, zero, suc, ◌+◌, ◌-◌, ◌*◌, ◌/◌, ◌%◌, ◌<◌, ◌≤◌, Bool, eqb, ◌≢◌, List, [], ◌∷◌, ◌++◌, map, length, get_or, take, drop, Some, None, sym, refl, ap, ◌∙◌, subst, ap₂, inl, inr, mul-le-mul_right, mod-lt, div-add-mod', add-one, arith, length-drop, drop-cons}
+use Rattle.std.proofs.Common.{◌≡◌, ℕ, zero, suc, ◌+◌, ◌-◌, ◌*◌, ◌/◌, ◌%◌, ◌<◌, ◌≤◌, Bool, false, cond, eqb, ◌≢◌, List, [], ◌∷◌, ◌++◌, map, length, take, drop, Some, refl, ap, ◌∙◌, subst, ap₂, inl, inr, mul-le-mul_right, mod-lt, div-add-mod', add-one, position, arith}
 use lib.Seq.{take-append-le}
 use mathlib.Core.Path.{fun_ext}
+use Rattle.std.specs.List.{position_from}
+use Rattle.std.proofs.lemmas.Iterator.Adapters.{position_from-zero}
 use Rattle.std.proofs.lemmas.List.{take_all, drop_all, append-nil}
 use Rattle.std.proofs.lemmas.Bool.{cases_Bool, cases_eq, cases_lt, eq-eqb, ne_eqb, lt-ltb, le-ltb, lt-leb, le-leb}
-use Rattle.flash.specs.declared.numbers.Sector.{Sector}
 use Rattle.scheme.specs.Place.{entry_of}
 use Rattle.scheme.specs.Tables.{stale_if, stale_all}
 use Rattle.fast.specs.Views.{entry_view, entries_view, expired_entry, in_run}
@@ -62,22 +63,18 @@ run_block c P pos =
 pub mapped_all : (f : Entry → Entry) (xs ys : List Entry) (n : ℕ) → length xs ≤ n → ys ≡ map f (take n xs) ++ drop n xs → ys ≡ map f xs
 mapped_all f xs ys n h e = e ∙ rw (take_all n xs h, drop_all n xs h) (append-nil (map f xs))
 
--- the search from entry i on, by what entry i is
-module _ (n i : ℕ) (es : List Entry) (d : Entry) (h : i < length es) where
-  at_entry : (x : Entry) → get_or es i d ≡ x → entry_of n i (entries_view (drop i es)) ≡ entry_of n i (entry_view x ∷ entries_view (drop (suc i) es))
-  at_entry x e = rw (drop-cons es i d h, e) refl
+-- whether an entry is the live one of sector n
+abbrev pub is_live : ℕ → Entry → Bool
+is_live n (Live m) = eqb m.0 n
+is_live n Stale = false
 
-  pub finds : (y : Sector) → get_or es i d ≡ Live y → y.0 ≡ n → entry_of n i (entries_view (drop i es)) ≡ Some i
-  finds y e same = at_entry (Live y) e ∙ rw (same, eq-eqb n n refl) refl
+found_from : (n i : ℕ) (es : List Entry) → position_from (is_live n) i es ≡ entry_of n i (entries_view es)
+found_from n i [] = refl
+found_from n i (Live m ∷ es) = ap (λ o. cond (eqb m.0 n) (Some i) o) (rw add-one (found_from n (suc i) es))
+found_from n i (Stale ∷ es) = rw add-one (found_from n (suc i) es)
 
-  pub passes_live : (y : Sector) → get_or es i d ≡ Live y → y.0 ≢ n → entry_of n (i + 1) (entries_view (drop (i + 1) es)) ≡ entry_of n i (entries_view (drop i es))
-  passes_live y e other = sym (at_entry (Live y) e ∙ rw (ne_eqb y.0 n other, add-one) refl)
-
-  pub passes_stale : get_or es i d ≡ Stale → entry_of n (i + 1) (entries_view (drop (i + 1) es)) ≡ entry_of n i (entries_view (drop i es))
-  passes_stale e = sym (at_entry Stale e ∙ rw add-one refl)
-
-pub ends_none : (n i : ℕ) (es : List Entry) → length es ≤ i → entry_of n i (entries_view (drop i es)) ≡ None
-ends_none n i es h = rw (drop_all i es h) refl
+pub found_entry : (n : ℕ) (es : List Entry) → position (is_live n) es ≡ entry_of n 0 (entries_view es)
+found_entry n es = position_from-zero (is_live n) es ∙ found_from n 0 es
 
 -- a slice of all of a list, written back
 pub taken_back : {A : Type 0} (xs ys : List A) (n : ℕ) → length xs ≡ n → take n (xs ++ ys) ≡ xs
@@ -91,10 +88,6 @@ pub views_drop : (n : ℕ) (es : List Entry) → entries_view (drop n es) ≡ dr
 views_drop zero es = refl
 views_drop (suc n) [] = refl
 views_drop (suc n) (e ∷ es) = views_drop n es
-
--- the front of a list rotated to its back and cut off
-pub rotated : {A : Type 0} (i n : ℕ) (xs : List A) → i ≤ length xs → n ≡ length xs - i → take n (drop i xs ++ take i xs) ≡ drop i xs
-rotated i n xs h e = taken_back (drop i xs) (take i xs) n (length-drop i xs ∙ sym e)
 
 pub length_views : (es : List Entry) → length (entries_view es) ≡ length es
 length_views [] = refl

@@ -1,5 +1,5 @@
 -- The fit check and format, check by check.
-use Rattle.std.proofs.Common.{◌≡◌, ℕ, ◌+◌, ◌<◌, ◌≤◌, true, false, ltb, leb, Some, None, sym, refl, ap, ◌∙◌, inl, inr, arith}
+use Rattle.std.proofs.Common.{◌≡◌, ℕ, ◌+◌, ◌<◌, ◌≤◌, true, false, ltb, leb, is_err, Some, None, Ok, Err, Result, sym, refl, ap, ◌∙◌, inl, inr, arith}
 use mathlib.Core.Path.{fun_ext}
 use Rattle.std.proofs.lemmas.Bool.{cases_lt, lt-ltb, le-ltb, le-leb, lt-leb}
 use Rattle.flash.specs.Meaning.{Flash}
@@ -10,7 +10,8 @@ use Rattle.scheme.specs.Tables as scheme
 use Rattle.scheme.specs.Work.{each, do_erase}
 use Rattle.fast.specs.Leaves.{at}
 use Rattle.fast.specs.Meaning.{view_of}
-use Rattle.fast.specs.Told.{meant, started}
+use Rattle.fast.specs.Told.{meant, started, unfit_number, fit_told}
+use Rattle.fast.specs.declared.fit.Unfit.{Unfit}
 use Rattle.fast.specs.declared.tables.Tables.{Tables}
 
 same_test : (a b : ℕ) → ltb a (b + 1) ≡ leb a b
@@ -49,3 +50,13 @@ module _ (f : Flash) (L R : ℕ) where
         let st : at g (view_of t) ≡ (formatted L first f).after = w (view_of t) ∙ ap (λ u. (each do_erase 0 f.blocks (at f u)).after) (s ∙ ap (λ n. first_tables L n first) eb) in
         let y : ◌≡◌ {A = Layer} (meant g (Some t)) (record { pages = f.pages; logical = L; random = R; state = (formatted L first f).after }) = λ j. record { pages = p j; logical = l j; random = r j; state = st j } in
         y ∙ rw (format, sym e) refl
+
+-- what the fit check told, by whether it is an error
+module _ (f : Flash) (L R : ℕ) where
+  pub formats_unfit : (first : ℕ) (r : Result (Unit {0}) Unfit) → true ≡ is_err r → fit_told r ≡ fit f L R → meant f None ≡ format (started f L R first)
+  formats_unfit first (Ok u) h e = let z : ◌≡◌ {A = ℕ} 0 1 = cc in absurd (omega arith)
+  formats_unfit first (Err x) h e = formats_nothing f L R first (unfit_number x) e
+
+  pub is_fit : (r : Result (Unit {0}) Unfit) → false ≡ is_err r → fit_told r ≡ fit f L R → fit f L R ≡ None
+  is_fit (Ok u) h e = sym e
+  is_fit (Err x) h e = let z : ◌≡◌ {A = ℕ} 0 1 = cc in absurd (omega arith)

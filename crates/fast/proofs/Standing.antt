@@ -1,26 +1,39 @@
--- A search for a block in a list, by what is left of it.
-use Rattle.std.proofs.Common.{◌≡◌, ℕ, suc, ◌+◌, ◌<◌, ◌≤◌, true, false, ltb, ◌≢◌, List, length, get_or, drop, sym, refl, ap, ◌∙◌, add-one, arith, drop-cons}
-use Rattle.std.proofs.lemmas.List.{drop_all}
-use Rattle.std.proofs.lemmas.Bool.{eq-eqb, ne_eqb, lt-ltb}
+-- The role of a block, by the lists that contain it.
+use Rattle.std.proofs.Common.{◌≡◌, ℕ, ◌+◌, Bool, true, false, eqb, ltb, List, [], ◌∷◌, Some, None, Option, sym, refl, zero-add, ◌∙◌, inl, inr, arith}
+use Rattle.std.specs.List.{list_any}
+use Rattle.std.proofs.lemmas.Bool.{cases_Bool, lt-ltb}
 use Rattle.flash.specs.declared.numbers.Block.{Block}
-use Rattle.scheme.specs.Roles.{times, is_block}
-use Rattle.fast.specs.Views.{numbers}
+use Rattle.scheme.specs.Roles.{free, stores_data, sequential_log, random_log, role_of, times}
+use Rattle.fast.specs.Views.{numbers, view}
+use Rattle.fast.specs.declared.tables.random.Entry.{Entry}
+use Rattle.fast.specs.declared.tables.sequential.Sw.{Sw}
 
-module _ (b i : ℕ) (xs : List Block) (d : Block) (h : i < length xs) where
-  at_turn : times b (numbers (drop i xs)) ≡ is_block (get_or xs i d).0 b + times b (numbers (drop (suc i) xs))
-  at_turn = rw (drop-cons xs i d h) refl
+-- whether a list contains a block
+abbrev pub contains : ℕ → List Block → Bool
+contains b xs = list_any (λ y. eqb y.0 b) xs
 
-  pub stands_here : (get_or xs i d).0 ≡ b → times b (numbers (drop i xs)) ≡ times b (numbers xs) → true ≡ ltb 0 (times b (numbers xs))
-  stands_here e inv =
-      let one : is_block (get_or xs i d).0 b ≡ 1 = rw (eq-eqb (get_or xs i d).0 b e) refl in
-      sym (lt-ltb 0 (times b (numbers xs)) (omega (arith, at_turn, one, inv)))
+stands : (b : ℕ) (xs : List Block) → contains b xs ≡ ltb 0 (times b (numbers xs))
+stands b [] = refl
+stands b (x ∷ xs) =
+    elim (cases_Bool (eqb x.0 b)) [
+      | inl h ↦ rw h (sym (lt-ltb 0 (1 + times b (numbers xs)) (omega arith)))
+      | inr h ↦ rw (h, zero-add) (stands b xs)
+    ]
 
-  pub stands_further : (get_or xs i d).0 ≢ b → times b (numbers (drop i xs)) ≡ times b (numbers xs) → times b (numbers (drop (i + 1) xs)) ≡ times b (numbers xs)
-  stands_further n inv =
-      let none : is_block (get_or xs i d).0 b ≡ 0 = rw (ne_eqb (get_or xs i d).0 b n) refl in
-      rw add-one (omega (arith, at_turn, none, inv))
+module _ (map : List Block) (logs : List Block) (es : List Entry) (frees : List Block) (n b : ℕ) where
+  pub stands_free : (sw : Option Sw) → true ≡ contains b frees → free ≡ role_of (view map sw logs es frees n) b
+  stands_free sw f = rw (sym (f ∙ stands b frees)) refl
 
-pub stands_nowhere : (b i : ℕ) (xs : List Block) → length xs ≤ i → times b (numbers (drop i xs)) ≡ times b (numbers xs) → false ≡ ltb 0 (times b (numbers xs))
-stands_nowhere b i xs h inv =
-    let e : times b (numbers (drop i xs)) ≡ 0 = ap (λ ys. times b (numbers ys)) (drop_all i xs h) in
-    ap (ltb 0) (sym e ∙ inv)
+  module _ (f : false ≡ contains b frees) where
+    pub stands_log : (sw : Option Sw) → true ≡ contains b logs → random_log ≡ role_of (view map sw logs es frees n) b
+    stands_log sw l = rw (sym (f ∙ stands b frees), sym (l ∙ stands b logs)) refl
+
+    module _ (l : false ≡ contains b logs) where
+      pub stands_sequential : (sw : Option Sw) (k : Sw) → sw ≡ Some k → true ≡ eqb k.block.0 b → sequential_log ≡ role_of (view map sw logs es frees n) b
+      stands_sequential sw k i e = rw (sym (f ∙ stands b frees), sym (l ∙ stands b logs), i, sym e) refl
+
+      pub stands_other : (sw : Option Sw) (k : Sw) → sw ≡ Some k → false ≡ eqb k.block.0 b → stores_data ≡ role_of (view map sw logs es frees n) b
+      stands_other sw k i e = rw (sym (f ∙ stands b frees), sym (l ∙ stands b logs), i, sym e) refl
+
+      pub stands_nowhere : (sw : Option Sw) → sw ≡ None → stores_data ≡ role_of (view map sw logs es frees n) b
+      stands_nowhere sw i = rw (sym (f ∙ stands b frees), sym (l ∙ stands b logs), i) refl

@@ -1,17 +1,23 @@
--- A loop that looks for a worn block.
-use Rattle.std.proofs.Common.{◌≡◌, ℕ, ◌+◌, Bool, true, false, ◌||◌, sym, refl, ap, ◌∙◌, add-one}
+-- A search for a worn block among all blocks.
+use Rattle.std.proofs.Common.{◌≡◌, ℕ, zero, suc, ◌≤◌, Bool, true, false, ◌&&◌, ◌||◌, ltb, [], ◌∷◌, ◌++◌, refl, ap, ◌∙◌, ap₂, sym, zero-add, add-one, arith}
+use Rattle.std.specs.List.{list_any, range_with_len}
+use Rattle.std.proofs.lemmas.Bool.{lt-ltb}
+use Rattle.std.proofs.lemmas.List.{map-id}
+use Rattle.std.proofs.lemmas.List.Folds.{list_any-append}
+use Rattle.std.proofs.lemmas.List.FromFn.{map-range_with_len_more}
 use Rattle.scheme.specs.Functions.{some_below}
 
-or_true : (x : Bool) → true ≡ x || true
-or_true true = refl
-or_true false = refl
+one_more : (n : ℕ) → range_with_len 0 (suc n) ≡ range_with_len 0 n ++ (n ∷ [])
+one_more n =
+    ap (range_with_len 0) (sym (add-one n)) ∙ sym (map-id _) ∙ map-range_with_len_more (λ x. x) 0 n n (zero-add n) ∙ ap (λ xs. xs ++ (n ∷ [])) (map-id _)
 
-or_false : (x : Bool) → x ≡ x || false
+or_false : (x : Bool) → (x || false) ≡ x
 or_false true = refl
 or_false false = refl
 
-pub found_here : (b : ℕ) (test : ℕ → Bool) (found : Bool) → found ≡ true → true ≡ test b → found ≡ some_below (b + 1) test
-found_here b test found e h = e ∙ or_true (some_below b test) ∙ ap (λ x. some_below b test || x) h ∙ ap (λ n. some_below n test) (sym (add-one b))
-
-pub found_before : (b : ℕ) (test : ℕ → Bool) (found was : Bool) → found ≡ was → was ≡ some_below b test → false ≡ test b → found ≡ some_below (b + 1) test
-found_before b test found was e f h = e ∙ f ∙ or_false (some_below b test) ∙ ap (λ x. some_below b test || x) h ∙ ap (λ n. some_below n test) (sym (add-one b))
+-- a test that also asks for a number below B, tried on no others
+pub any_below : (B : ℕ) (test : ℕ → Bool) (n : ℕ) → n ≤ B → list_any (λ b. ltb b B && test b) (range_with_len 0 n) ≡ some_below n test
+any_below B test zero h = refl
+any_below B test (suc n) h =
+    let here : (ltb n B && test n || false) ≡ test n = rw (lt-ltb n B (omega arith)) (or_false (test n)) in
+    ap (list_any (λ b. ltb b B && test b)) (one_more n) ∙ list_any-append (λ b. ltb b B && test b) (range_with_len 0 n) (n ∷ []) ∙ ap₂ (λ x y. x || y) (any_below B test n (omega arith)) here

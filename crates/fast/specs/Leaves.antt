@@ -1,13 +1,16 @@
 -- How the code of a step is held to the scheme's: from the device and the tables before it, it leaves what the step's work leaves.
-use Rattle.std.specs.Prelude.{◌≡◌, ℕ, List, Some, None, Option}
+use Rattle.std.specs.Prelude.{◌≡◌, ℕ, Bool, true, false, List, Some, None, Option}
 use Rattle.flash.specs.Meaning.{Flash, Page, blank, holds}
 use Rattle.flash.specs.declared.device.Mark.{Mark}
 use Rattle.scheme.specs.Steps as scheme
 use Rattle.scheme.specs.Tables.{Tables as SchemeTables}
 use Rattle.scheme.specs.Work.{State, Work}
-use Rattle.fast.specs.Meaning.{view_of}
+use Rattle.fast.specs.Meaning.{view_of, Sized}
 use Rattle.fast.specs.declared.steps.Fresh.{Fresh}
+use Rattle.fast.specs.declared.steps.Page as code
 use Rattle.fast.specs.declared.steps.Step.{Step}
+use Rattle.fast.specs.declared.steps.WriteKind.TheVariants.{First, Overwrite}
+use Rattle.fast.specs.declared.steps.WriteKind.{WriteKind}
 use Rattle.fast.specs.declared.tables.Tables.{Tables}
 
 -- the page that a mark and bytes say
@@ -15,14 +18,19 @@ abbrev pub page_told : Option Mark → List ℕ → Page
 page_told None bytes = blank
 page_told (Some m) bytes = holds m.sector.0 m.stamp bytes
 
--- the page that a mark and bytes make
-abbrev pub page_made : Mark → List ℕ → Page
-page_made m bytes = holds m.sector.0 m.stamp bytes
+-- whether a write is the first of its sector
+abbrev pub is_first : WriteKind → Bool
+is_first First = true
+is_first Overwrite = false
+
+-- the page that is programmed
+abbrev pub page_made : code.Page → Page
+page_made p = holds p.mark.sector.0 p.mark.stamp p.bytes.now
 
 -- a new page for one offset
-abbrev pub fresh_view : Option Fresh → List ℕ → Option scheme.Fresh
-fresh_view None bytes = None
-fresh_view (Some x) bytes = Some (record { offset = x.offset.0; content = page_made x.mark bytes })
+abbrev pub fresh_view : Option Fresh → Option scheme.Fresh
+fresh_view None = None
+fresh_view (Some x) = Some (record { offset = x.offset.0; content = page_made x.page })
 
 abbrev pub at : Flash → SchemeTables → State
 at f t = record { flash = f; tables = t }
@@ -50,3 +58,12 @@ module _ {D : Type 0} (flash : D → Flash) (work : State → Work) (before : D)
   -- It copies so many pages, and leaves the tables alone.
   abbrev pub Carries : ℕ → Type 0
   Carries n = Copied (work (at (flash before) (view_of t))) (flash after) n
+
+  -- The step does the work, and leaves the layer as large and the next stamp the same.
+  pub record DoesSized (step : Step) : Type 0 where
+    pub does : Does step
+    pub sized : Sized step.tables t
+
+  pub record WritesSized (u : Tables) : Type 0 where
+    pub writes : Writes u
+    pub sized : Sized u t

@@ -1,11 +1,12 @@
 -- What the code's tables mean to the steps, and which parts of them a step leaves alone.
-use Rattle.std.specs.Prelude.{◌≡◌, ℕ, List, drop, vec_items, vec_len, slice_index}
+use Rattle.std.specs.Prelude.{◌≡◌, ℕ, List, drop, vec_items, slice_index}
+use Rattle.std.specs.VecDeque.{deque_items, deque_len}
 use Rattle.scheme.specs.Tables as scheme
 use Rattle.fast.specs.Views.{view}
 use Rattle.fast.specs.declared.tables.Tables.{Tables}
 
 abbrev pub view_of : Tables → scheme.Tables
-view_of t = view (vec_items t.map) t.sw (vec_items t.rw.blocks) (vec_items t.rw.entries) (vec_items t.free.blocks) t.next
+view_of t = view (vec_items t.map) t.sw (deque_items t.rw.blocks) (deque_items t.rw.entries) (deque_items t.free.blocks) t.next
 
 -- the free block that is taken next, and those behind it
 abbrev pub front_of : Tables → ℕ
@@ -20,4 +21,4 @@ Sized t u = (t.sizes ≡ u.sizes) × (t.next ≡ u.next)
 
 -- there are as many random log blocks, and as many filled pages in them
 abbrev pub Logged : Tables → Tables → Type 0
-Logged t u = (vec_len t.rw.blocks ≡ vec_len u.rw.blocks) × (vec_len t.rw.entries ≡ vec_len u.rw.entries)
+Logged t u = (deque_len t.rw.blocks ≡ deque_len u.rw.blocks) × (deque_len t.rw.entries ≡ deque_len u.rw.entries)

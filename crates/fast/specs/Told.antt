@@ -1,5 +1,5 @@
 -- What a layer of the code means, and what its answers say in the terms of the ledger: each case with its number and its values.
-use Rattle.std.specs.Prelude.{ℕ, Bool, cond, List, Some, None, Ok, Err, Option, Result, nat_lt}
+use Rattle.std.specs.Prelude.{ℕ, cond, List, Some, None, Ok, Err, codes, Option, Result, nat_lt}
 use Rattle.flash.specs.Meaning.{Flash}
 use Rattle.scheme.specs.Ledger as ledger
 use Rattle.scheme.specs.Roles.{Role, role_of}
@@ -13,6 +13,7 @@ use Rattle.fast.specs.declared.layer.Found.{Found}
 use Rattle.fast.specs.declared.layer.Layer.{Layer}
 use Rattle.fast.specs.declared.refusal.Refusal.TheVariants.{NoSuchSector, BufferNotASector, BlocksWornOut, StampsUsedUp}
 use Rattle.fast.specs.declared.refusal.Refusal.{Refusal}
+use Rattle.fast.specs.declared.steps.WriteKind.{WriteKind}
 use Rattle.fast.specs.declared.tables.Tables.{Tables}
 
 -- a device with tables, or with none
@@ -46,16 +47,27 @@ refusal_number BufferNotASector = 3
 refusal_number BlocksWornOut = 12
 refusal_number StampsUsedUp = 14
 
+-- and what it says in words
+abbrev pub refusal_text : Refusal → List ℕ
+refusal_text NoSuchSector = codes "no such sector"
+refusal_text BufferNotASector = codes "the buffer is not 512 bytes long"
+refusal_text BlocksWornOut = codes "the blocks are worn out"
+refusal_text StampsUsedUp = codes "the stamps are used up"
+
 abbrev pub unfit_number : Unfit → ℕ
 unfit_number OutOfRange = 11
 unfit_number WornOut = 12
+
+abbrev pub unfit_text : Unfit → List ℕ
+unfit_text OutOfRange = codes "the sizes are out of range"
+unfit_text WornOut = codes "a block is worn out"
 
 abbrev pub fit_told : Result (Unit {0}) Unfit → Option ℕ
 fit_told (Ok u) = None
 fit_told (Err e) = Some (unfit_number e)
 
-abbrev pub admitted_told : Result Bool Refusal → Option ℕ
-admitted_told (Ok first) = None
+abbrev pub admitted_told : Result WriteKind Refusal → Option ℕ
+admitted_told (Ok kind) = None
 admitted_told (Err e) = Some (refusal_number e)
 
 -- what a read found, and the buffer after it

@@ -3,29 +3,49 @@
 // The limits keep every number of the layer small: at most 15,360 sectors and 512 entries. L + R + 2 blocks are the least that the steps
 // need: a data block for each logical block, the random log blocks, the sequential log block, and one free block to merge into.
 
-ghost use Rattle.std.specs.Prelude.{◌≡◌, ◌+◌, nat_le};
+ghost use Rattle.std.specs.Prelude.{◌≡◌, ◌+◌, Some, nat_le};
 ghost use Rattle.scheme.specs.Runs.{within, geometry_fits, fit};
-ghost use Rattle.fast.specs.Told.{unfit_number, fit_told};
+ghost use Rattle.fast.specs.Told.{unfit_number, unfit_text, fit_told};
 
 use crate::wear::worn;
 use flash::device::Device;
+use std::error::Error;
+use std::fmt;
 
 // Why a device does not fit. Where both reasons apply, the first is given.
 #[derive(Clone, Copy, PartialEq, Eq, Debug)]
 pub enum Unfit {
-    OutOfRange,
-    WornOut,
+    OutOfRange = 11,
+    WornOut = 12,
 }
 
 impl Unfit {
     pub fn number(self) -> u32
         ensures { result ≡ unfit_number self }
     {
-        match self {
-            Unfit::OutOfRange => 11,
-            Unfit::WornOut => 12,
+        self as u32
+    }
+}
+
+impl fmt::Display for Unfit {
+    ghost output = { λ x. Some (unfit_text x) };
+
+    fn fmt<W: fmt::Write>(&self, f: &mut fmt::Formatter<W>) -> fmt::Result {
+        match *self {
+            Unfit::OutOfRange => write!(f, "the sizes are out of range"),
+            Unfit::WornOut => write!(f, "a block is worn out"),
         }
     }
+}
+
+impl Error for Unfit {}
+
+// What a layer is to be: its logical blocks, the most random log blocks, and the first stamp. Any numbers may be asked for.
+#[derive(Clone, Copy, PartialEq, Eq, Debug)]
+pub struct Plan {
+    pub logical: u32,
+    pub random: u32,
+    pub first_stamp: u32,
 }
 
 fn between(low: u32, n: u32, high: u32) -> bool
@@ -41,22 +61,22 @@ fn has_room(blocks: u32, logical: u32, random: u32) -> bool
     logical as u64 + random as u64 + 2 <= blocks as u64
 }
 
-fn geometry_fits<D: Device>(device: &D, logical: u32, random: u32) -> bool
-    ensures { result ≡ geometry_fits (D.Device.flash device.now) logical random }
+fn geometry_fits<D: Device>(device: &D, plan: Plan) -> bool
+    ensures { result ≡ geometry_fits (D.Device.flash device.now) plan.logical plan.random }
 {
     between(2, device.pages(), 32)
         && device.blocks() <= 512
         && between(1, device.life(), 100_000)
-        && between(1, logical, 480)
-        && between(1, random, 16)
-        && has_room(device.blocks(), logical, random)
+        && between(1, plan.logical, 480)
+        && between(1, plan.random, 16)
+        && has_room(device.blocks(), plan.logical, plan.random)
 }
 
-// Checks a device, the logical blocks, the most random log blocks, and the first stamp, which may be any.
-pub fn fit<D: Device>(device: &D, logical: u32, random: u32, _first: u32) -> Result<(), Unfit>
-    ensures answer { fit_told result ≡ fit (D.Device.flash device.now) logical random }
+// Checks a device against a plan. The first stamp may be any.
+pub fn fit<D: Device>(device: &D, plan: Plan) -> Result<(), Unfit>
+    ensures answer { fit_told result ≡ fit (D.Device.flash device.now) plan.logical plan.random }
 {
-    if !geometry_fits(device, logical, random) {
+    if !geometry_fits(device, plan) {
         return Err(Unfit::OutOfRange);
     }
     if worn(device, 1) {

@@ -15,21 +15,22 @@ ghost use Rattle.scheme.specs.Ledger.{read, write, shown};
 ghost use Rattle.scheme.specs.Runs.{sectors, format, call, worn, write_refusal};
 ghost use Rattle.scheme.specs.Tables.{Tables as SchemeTables};
 ghost use Rattle.scheme.specs.Work.{seen, line, each, do_erase};
-ghost use Rattle.fast.specs.Leaves.{at};
+ghost use Rattle.fast.specs.Leaves.{at, is_first};
 ghost use Rattle.fast.specs.Meaning.{view_of};
 ghost use Rattle.fast.specs.Roles.{role_told};
 ghost use Rattle.fast.specs.Told.{meant, layer_of, role_meant, started, found_told, read_told, write_told, admitted_told};
 
-use crate::fit::fit;
+use crate::fit::{Plan, fit};
 use crate::numbers::LogicalBlock;
 use crate::refusal::Refusal;
 use crate::roles::Role;
 use crate::start::start_tables;
+use crate::steps::WriteKind;
 use crate::steps::copies::vacant;
 use crate::steps::writes::write_accepted;
 use crate::tables::{Sizes, Tables};
 use crate::wear::worn;
-use flash::device::Device;
+use flash::device::{Device, SECTOR_SIZE};
 use flash::numbers::{Block, PageOffset, Sector};
 use std::alloc::{AllocError, Global};
 
@@ -57,7 +58,7 @@ fn erase_all<D: Device>(device: &mut D)
 
 // Fills the buffer with what the device shows of a page, and with 0xFF if that is blank or the device refuses.
 fn show<D: Device>(device: &D, block: Block, page: PageOffset, buffer: &mut [u8]) -> Found
-    requires { length buffer.old ≡ 512 }
+    requires { length buffer.old ≡ SECTOR_SIZE }
     ensures { found_told result buffer.new ≡ shown (line (seen (D.Device.flash device.now) block.0 page.0)) }
 {
     match device.read(block, page, buffer) {
@@ -71,60 +72,58 @@ fn show<D: Device>(device: &D, block: Block, page: PageOffset, buffer: &mut [u8]
 }
 
 // Whether a write could wear out a block: an overwrite makes up to min(P, L) + 1 erases, a first write none.
-fn wears_out<D: Device>(device: &D, tables: &Tables, first: bool) -> bool
-    ensures { result ≡ not first && worn (meant (D.Device.flash device.now) (Some tables.now)) }
+fn wears_out<D: Device>(device: &D, tables: &Tables, kind: WriteKind) -> bool
+    ensures { result ≡ not (is_first kind) && worn (meant (D.Device.flash device.now) (Some tables.now)) }
 {
-    if first {
-        return false;
+    match kind {
+        WriteKind::First => false,
+        WriteKind::Overwrite => worn(device, tables.sizes.pages.min(tables.sizes.logical) + 1),
     }
-    worn(device, tables.sizes.pages.min(tables.sizes.logical) + 1)
 }
 
-// Whether a write may go on; if so, whether it is the first of its sector.
+// Whether a write may go on; if so, which kind it is.
 fn admit<D: Device>(
     device: &D,
     tables: &Tables,
     sector: Sector,
     bytes: &[u8],
-) -> Result<bool, Refusal>
+) -> Result<WriteKind, Refusal>
     ensures refusal { admitted_told result ≡ write_refusal (meant (D.Device.flash device.now) (Some tables.now)) sector.0 bytes.now }
     ensures known { OnOk result (sector.0 < tables.now.sizes.logical * tables.now.sizes.pages) }
     ensures left { OnOk result (tables.now.next < 0xFFFFFFFF) }
-    ensures found { IfOk result (λ first. first ≡ is_blank (seen (D.Device.flash device.now) ((view_of tables.now).data_block (sector.0 / tables.now.sizes.pages)) (sector.0 % tables.now.sizes.pages))) }
+    ensures found { IfOk result (λ kind. is_first kind ≡ is_blank (seen (D.Device.flash device.now) ((view_of tables.now).data_block (sector.0 / tables.now.sizes.pages)) (sector.0 % tables.now.sizes.pages))) }
 {
     let sizes = &tables.sizes;
-    if sector.0 >= sizes.logical * sizes.pages {
+    if sector.0 >= sizes.sectors() {
         return Err(Refusal::NoSuchSector);
     }
-    if bytes.len() != 512 {
+    if bytes.len() != SECTOR_SIZE {
         return Err(Refusal::BufferNotASector);
     }
     let block = tables.map[(sector.0 / sizes.pages) as usize];
-    let first = vacant(device, block, PageOffset(sector.0 % sizes.pages));
-    if wears_out(device, tables, first) {
+    let kind = if vacant(device, block, PageOffset(sector.0 % sizes.pages)) {
+        WriteKind::First
+    } else {
+        WriteKind::Overwrite
+    };
+    if wears_out(device, tables, kind) {
         return Err(Refusal::BlocksWornOut);
     }
     if tables.next == 0xFFFF_FFFF {
         return Err(Refusal::StampsUsedUp);
     }
-    Ok(first)
+    Ok(kind)
 }
 
 impl<D: Device> Layer<D> {
     // Formats a device: every block is erased once. A device that does not fit is left alone, and the layer has no sectors. Want of memory
     // is found before the first erase, and gives the device back as it was.
-    pub fn format(
-        heap: Global,
-        device: D,
-        logical: u32,
-        random: u32,
-        first: u32,
-    ) -> Result<Layer<D>, (D, AllocError)>
-        ensures after { IfOk result (λ y. layer_of D.Device.flash y ≡ format (started (D.Device.flash device) logical random first)) }
-        ensures law { IfOk result (λ y. Begun (started (D.Device.flash device) logical random first) (layer_of D.Device.flash y)) }
+    pub fn format(heap: Global, device: D, plan: Plan) -> Result<Layer<D>, (D, AllocError)>
+        ensures after { IfOk result (λ y. layer_of D.Device.flash y ≡ format (started (D.Device.flash device) plan.logical plan.random plan.first_stamp)) }
+        ensures law { IfOk result (λ y. Begun (started (D.Device.flash device) plan.logical plan.random plan.first_stamp) (layer_of D.Device.flash y)) }
         ensures untouched { IfErr result (λ e. e.0 ≡ device) }
     {
-        if let Err(_) = fit(&device, logical, random, first) {
+        if fit(&device, plan).is_err() {
             return Ok(Layer {
                 device,
                 tables: None,
@@ -132,11 +131,11 @@ impl<D: Device> Layer<D> {
         }
         let sizes = Sizes {
             pages: device.pages(),
-            logical,
-            random,
+            logical: plan.logical,
+            random: plan.random,
             blocks: device.blocks(),
         };
-        match start_tables(heap, sizes, first) {
+        match start_tables(heap, sizes, plan.first_stamp) {
             Err(e) => Err((device, e)),
             Ok(tables) => {
                 let mut device = device;
@@ -169,23 +168,19 @@ impl<D: Device> Layer<D> {
     pub fn sectors(&self) -> u32
         ensures { result ≡ sectors (layer_of D.Device.flash self.now) }
     {
-        match &self.tables {
-            Some(tables) => tables.sizes.logical * tables.sizes.pages,
-            None => 0,
-        }
+        self.tables
+            .as_ref()
+            .map_or(0, |tables| tables.sizes.sectors())
     }
 
     // The role of a block, if the layer has sectors and the device such a block.
     pub fn role(&self, block: Block) -> Option<Role>
         ensures { option_map role_told result ≡ role_meant self.now.tables block.0 }
     {
-        let Some(tables) = &self.tables else {
-            return None;
-        };
-        if block.0 >= tables.sizes.blocks {
-            return None;
-        }
-        Some(tables.role(block))
+        self.tables
+            .as_ref()
+            .filter(|tables| block.0 < tables.sizes.blocks)
+            .map(|tables| tables.role(block))
     }
 
     // Reads a sector into the buffer, which is filled with 0xFF where it was never written.
@@ -193,14 +188,12 @@ impl<D: Device> Layer<D> {
         ensures reply { read_told result buffer.new ≡ (call (layer_of D.Device.flash self.now) (read sector.0 buffer.old)).reply }
         ensures law { Lawful (layer_of D.Device.flash self.now) (read sector.0 buffer.old) (read_told result buffer.new) (layer_of D.Device.flash self.now) }
     {
-        let Some(tables) = &self.tables else {
-            return Err(Refusal::NoSuchSector);
-        };
+        let tables = self.tables.as_ref().ok_or(Refusal::NoSuchSector)?;
         let sizes = &tables.sizes;
-        if sector.0 >= sizes.logical * sizes.pages {
+        if sector.0 >= sizes.sectors() {
             return Err(Refusal::NoSuchSector);
         }
-        if buffer.len() != 512 {
+        if buffer.len() != SECTOR_SIZE {
             return Err(Refusal::BufferNotASector);
         }
         let c = LogicalBlock(sector.0 / sizes.pages);
@@ -214,16 +207,14 @@ impl<D: Device> Layer<D> {
         ensures after { layer_of D.Device.flash self.new ≡ (call (layer_of D.Device.flash self.old) (write sector.0 bytes.now)).after }
         ensures law { Lawful (layer_of D.Device.flash self.old) (write sector.0 bytes.now) (write_told result bytes.now) (layer_of D.Device.flash self.new) }
     {
-        let Some(tables) = self.tables.take() else {
-            return Err(Refusal::NoSuchSector);
-        };
+        let tables = self.tables.take().ok_or(Refusal::NoSuchSector)?;
         match admit(&self.device, &tables, sector, bytes) {
             Err(refusal) => {
                 self.tables = Some(tables);
                 Err(refusal)
             }
-            Ok(first) => {
-                let step = write_accepted(&mut self.device, tables, first, sector, bytes);
+            Ok(kind) => {
+                let step = write_accepted(&mut self.device, tables, kind, sector, bytes);
                 self.tables = Some(step.tables);
                 Ok((step.erases, step.copies))
             }

@@ -1,25 +1,38 @@
 // Why a layer refuses a read or a write. Where two reasons apply, the one that stands first here is given.
 
-ghost use Rattle.std.specs.Prelude.{◌≡◌};
-ghost use Rattle.fast.specs.Told.{refusal_number};
+ghost use Rattle.std.specs.Prelude.{◌≡◌, Some};
+ghost use Rattle.fast.specs.Told.{refusal_number, refusal_text};
+
+use std::error::Error;
+use std::fmt;
 
 #[derive(Clone, Copy, PartialEq, Eq, Debug)]
 pub enum Refusal {
-    NoSuchSector,
-    BufferNotASector,
-    BlocksWornOut,
-    StampsUsedUp,
+    NoSuchSector = 13,
+    BufferNotASector = 3,
+    BlocksWornOut = 12,
+    StampsUsedUp = 14,
 }
 
 impl Refusal {
     pub fn number(self) -> u32
         ensures { result ≡ refusal_number self }
     {
-        match self {
-            Refusal::NoSuchSector => 13,
-            Refusal::BufferNotASector => 3,
-            Refusal::BlocksWornOut => 12,
-            Refusal::StampsUsedUp => 14,
+        self as u32
+    }
+}
+
+impl fmt::Display for Refusal {
+    ghost output = { λ x. Some (refusal_text x) };
+
+    fn fmt<W: fmt::Write>(&self, f: &mut fmt::Formatter<W>) -> fmt::Result {
+        match *self {
+            Refusal::NoSuchSector => write!(f, "no such sector"),
+            Refusal::BufferNotASector => write!(f, "the buffer is not 512 bytes long"),
+            Refusal::BlocksWornOut => write!(f, "the blocks are worn out"),
+            Refusal::StampsUsedUp => write!(f, "the stamps are used up"),
         }
     }
 }
+
+impl Error for Refusal {}

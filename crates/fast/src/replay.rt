@@ -9,6 +9,7 @@ ghost use Rattle.scheme.specs.Runs.{call, last_layer, replies_of};
 ghost use Rattle.fast.specs.Replay.{call_told, calls_told, reply_told, replies_told};
 ghost use Rattle.fast.specs.Told.{layer_of, started};
 
+use crate::fit::Plan;
 use crate::layer::{Found, Layer};
 use crate::refusal::Refusal;
 use flash::device::Device;
@@ -76,20 +77,18 @@ fn make_all<D: Device>(layer: &mut Layer<D>, calls: Vec<Call>, replies: &mut Vec
 pub fn replay<D: Device>(
     heap: Global,
     device: D,
-    logical: u32,
-    random: u32,
-    first: u32,
+    plan: Plan,
     calls: Vec<Call>,
 ) -> Result<(Layer<D>, Vec<Reply>), (D, AllocError)>
-    ensures law { IfOk result (λ p. Law (started (D.Device.flash device) logical random first) (calls_told calls.items) (replies_told p.1.items)) }
-    ensures after { IfOk result (λ p. Reached (started (D.Device.flash device) logical random first) (calls_told calls.items) (layer_of D.Device.flash p.0)) }
+    ensures law { IfOk result (λ p. Law (started (D.Device.flash device) plan.logical plan.random plan.first_stamp) (calls_told calls.items) (replies_told p.1.items)) }
+    ensures after { IfOk result (λ p. Reached (started (D.Device.flash device) plan.logical plan.random plan.first_stamp) (calls_told calls.items) (layer_of D.Device.flash p.0)) }
     ensures untouched { IfErr result (λ e. e.0 ≡ device) }
 {
     let mut replies = match Vec::with_capacity(heap, calls.len()) {
         Ok(replies) => replies,
         Err(e) => return Err((device, e)),
     };
-    let mut layer = Layer::format(heap, device, logical, random, first)?;
+    let mut layer = Layer::format(heap, device, plan)?;
     make_all(&mut layer, calls, &mut replies);
     Ok((layer, replies))
 }

@@ -1,30 +1,20 @@
-// All on a module of two chips: the join of an image of 4 blocks and a window of 4 blocks, from block 1 on, on an image of 5; 4 pages a
-// block, life 100. What a case does is written for any device, so that it is proved once and without the module's types.
+// All on the module of two chips, 4 pages a block, life 100. What a case does is written for any device, so that it is proved once and
+// without the module's types.
 
+use chips::blank::blank_image;
+use chips::module::{LEFT_BLOCKS, RIGHT_BLOCKS, two_chips};
+use fast::fit::Plan;
 use fast::layer::{Found, Layer};
 use fast::refusal::Refusal;
-use flash::blank::write_blank;
 use flash::chip::ImageChip;
-use flash::device::Device;
+use flash::device::{Device, SECTOR_SIZE};
 use flash::join::Join;
-use flash::numbers::{Block, Sector};
+use flash::numbers::Sector;
 use flash::window::Window;
 use image::shape::Geometry;
 use std::alloc::Global;
 use std::process::Abort;
 use std::test::Fail;
-
-const LEFT: Geometry = Geometry {
-    blocks: 4,
-    pages: 4,
-    life: 100,
-};
-
-const RIGHT: Geometry = Geometry {
-    blocks: 5,
-    pages: 4,
-    life: 100,
-};
 
 // Sectors, and the erases and copies that their writes answer once every sector was written in order.
 const WORKED_RUN: [(u32, u32, u32); 20] = [
@@ -66,27 +56,17 @@ const STALE_ENTRY: [(u32, u32, u32); 11] = [
     (10, 3, 8),
 ];
 
-fn blank(heap: Global, geometry: Geometry) -> Result<Vec<u8>, Fail> {
-    let length = geometry.image_length().ok_or("no such geometry")?;
-    let mut bytes = vec![in heap; 0u8; length]?;
-    write_blank(&mut bytes, geometry)?;
-    Ok(bytes)
-}
-
-// What is tried.
-#[derive(Clone, Copy)]
-enum Case {
-    WorkedRun,
-    StaleEntry,
-    Edges,
-    NoStamp,
-    // an overwrite, which may cost five erases, with a block this far below its life
-    Wear { accepted: bool },
-    Unfit,
+fn blank_chip(heap: Global, blocks: u32) -> Result<Vec<u8>, Fail> {
+    let geometry = Geometry {
+        blocks,
+        pages: 4,
+        life: 100,
+    };
+    blank_image(heap, geometry).map_err(|_| Fail::new("no blank chip"))
 }
 
 fn write<D: Device>(layer: &mut Layer<D>, n: u32) -> Result<(u32, u32), Refusal> {
-    layer.write(Sector(n), &[(n & 0xff) as u8; 512])
+    layer.write(Sector(n), &[(n & 0xff) as u8; SECTOR_SIZE])
 }
 
 // Writes of these sectors answer these erases and copies.
@@ -110,7 +90,7 @@ fn fill<D: Device>(rt: &impl Abort, layer: &mut Layer<D>) {
 }
 
 fn sectors_and_stamps_end<D: Device>(rt: &impl Abort, layer: &mut Layer<D>) -> Result<(), Fail> {
-    let mut buffer = [7u8; 512];
+    let mut buffer = [7u8; SECTOR_SIZE];
     assert_eq!(rt; layer.sectors(), 16);
     assert_eq!(rt;
         layer.read(Sector(15), &mut buffer),
@@ -142,112 +122,97 @@ fn sectors_and_stamps_end<D: Device>(rt: &impl Abort, layer: &mut Layer<D>) -> R
     Ok(())
 }
 
-fn try_case<D: Device>(rt: &impl Abort, layer: &mut Layer<D>, case: Case) -> Result<(), Fail> {
-    match case {
-        Case::WorkedRun => {
-            fill(rt, layer);
-            answer(rt, layer, &WORKED_RUN)
-        }
-        Case::StaleEntry => {
-            fill(rt, layer);
-            answer(rt, layer, &STALE_ENTRY)
-        }
-        Case::Edges => sectors_and_stamps_end(rt, layer),
-        Case::NoStamp => {
-            assert_eq!(rt; write(layer, 0), Err(Refusal::StampsUsedUp));
-            Ok(())
-        },
-        Case::Wear { accepted } => {
-            fill(rt, layer);
-            let want = if accepted {
-                Ok((0, 0))
-            } else {
-                Err(Refusal::BlocksWornOut)
-            };
-            assert_eq!(rt; write(layer, 5), want);
-            Ok(())
-        }
-        Case::Unfit => {
-            assert_eq!(rt; layer.sectors(), 0);
-            assert_eq!(rt; write(layer, 0), Err(Refusal::NoSuchSector));
-            Ok(())
-        }
-    }
+// A write to a full layer, which is an overwrite, answers this.
+fn overwrite_answers<D: Device>(
+    rt: &impl Abort,
+    layer: &mut Layer<D>,
+    want: Result<(u32, u32), Refusal>,
+) -> Result<(), Fail> {
+    fill(rt, layer);
+    assert_eq!(rt; write(layer, 5), want);
+    Ok(())
+}
+
+// A write to sector 0 is refused so.
+fn refuses<D: Device>(rt: &impl Abort, layer: &mut Layer<D>, refusal: Refusal) -> Result<(), Fail> {
+    assert_eq!(rt; write(layer, 0), Err(refusal));
+    Ok(())
 }
 
 // Formats the module, whose first block was erased so often before, and tries a case on it. Answers whether the first image is as it was.
-fn on_module(
+fn on_module<F: FnOnce(&mut Layer<Join<ImageChip, Window<ImageChip>>>) -> Result<(), Fail>>(
     rt: &impl Abort,
     heap: Global,
     erased: u8,
     logical: u32,
-    first: u32,
-    case: Case,
-) -> Result<bool, Fail> {
-    let mut left = blank(heap, LEFT)?;
-    let mut right = blank(heap, RIGHT)?;
+    first_stamp: u32,
+    case: F,
+) -> Result<bool, Fail>
+    requires { F.IsAlwaysCallable case }
+{
+    let mut left = blank_chip(heap, LEFT_BLOCKS)?;
+    let mut right = blank_chip(heap, RIGHT_BLOCKS)?;
     assert!(rt; left.len() > 20);
     left[20] = erased;
     let before = left.clone()?;
-    let second = Window {
-        device: ImageChip::new(&mut right),
-        first: Block(1),
-        count: 4,
+    let device = two_chips(ImageChip::new(&mut left), ImageChip::new(&mut right));
+    let plan = Plan {
+        logical,
+        random: 2,
+        first_stamp,
     };
-    let device = Join {
-        first: ImageChip::new(&mut left),
-        second,
-    };
-    let Ok(mut layer) = Layer::format(heap, device, logical, 2, first) else {
+    let Ok(mut layer) = Layer::format(heap, device, plan) else {
         return Err(Fail::new("no memory"));
     };
-    try_case(rt, &mut layer, case)?;
+    case(&mut layer)?;
     drop(layer);
     Ok(left == before)
 }
 
 #[test]
 fn the_worked_run(rt: HostRuntime) -> Result<(), Fail> {
-    assert_eq!(rt;
-        on_module(&rt, rt.alloc(), 0, 4, 1, Case::WorkedRun)?,
-        false
-    );
+    let same = on_module(&rt, rt.alloc(), 0, 4, 1, |layer| {
+        fill(&rt, layer);
+        answer(&rt, layer, &WORKED_RUN)
+    })?;
+    assert_eq!(rt; same, false);
     Ok(())
 }
 
 #[test]
 fn a_stale_entry_is_not_merged_for(rt: HostRuntime) -> Result<(), Fail> {
-    assert_eq!(rt;
-        on_module(&rt, rt.alloc(), 0, 4, 1, Case::StaleEntry)?,
-        false
-    );
+    let same = on_module(&rt, rt.alloc(), 0, 4, 1, |layer| {
+        fill(&rt, layer);
+        answer(&rt, layer, &STALE_ENTRY)
+    })?;
+    assert_eq!(rt; same, false);
     Ok(())
 }
 
 #[test]
 fn sectors_and_stamps_have_an_end(rt: HostRuntime) -> Result<(), Fail> {
-    assert_eq!(rt;
-        on_module(&rt, rt.alloc(), 0, 4, 0xFFFF_FFFE, Case::Edges)?,
-        false
-    );
-    assert_eq!(rt;
-        on_module(&rt, rt.alloc(), 0, 4, 0xFFFF_FFFF, Case::NoStamp)?,
-        false
-    );
+    let same = on_module(&rt, rt.alloc(), 0, 4, 0xFFFF_FFFE, |layer| {
+        sectors_and_stamps_end(&rt, layer)
+    })?;
+    assert_eq!(rt; same, false);
+    let same = on_module(&rt, rt.alloc(), 0, 4, 0xFFFF_FFFF, |layer| {
+        refuses(&rt, layer, Refusal::StampsUsedUp)
+    })?;
+    assert_eq!(rt; same, false);
     Ok(())
 }
 
 // Life is 100 and an overwrite may cost five erases: it is accepted at a count of 95 and refused at 96. Format adds one to each count.
 #[test]
 fn wear_is_checked_before_an_overwrite(rt: HostRuntime) -> Result<(), Fail> {
-    assert_eq!(rt;
-        on_module(&rt, rt.alloc(), 94, 4, 1, Case::Wear { accepted: true })?,
-        false
-    );
-    assert_eq!(rt;
-        on_module(&rt, rt.alloc(), 95, 4, 1, Case::Wear { accepted: false })?,
-        false
-    );
+    let same = on_module(&rt, rt.alloc(), 94, 4, 1, |layer| {
+        overwrite_answers(&rt, layer, Ok((0, 0)))
+    })?;
+    assert_eq!(rt; same, false);
+    let same = on_module(&rt, rt.alloc(), 95, 4, 1, |layer| {
+        overwrite_answers(&rt, layer, Err(Refusal::BlocksWornOut))
+    })?;
+    assert_eq!(rt; same, false);
     Ok(())
 }
 
@@ -255,7 +220,15 @@ fn wear_is_checked_before_an_overwrite(rt: HostRuntime) -> Result<(), Fail> {
 // not fit is not touched.
 #[test]
 fn what_does_not_fit_is_left_alone(rt: HostRuntime) -> Result<(), Fail> {
-    assert_eq!(rt; on_module(&rt, rt.alloc(), 0, 5, 1, Case::Unfit)?, true);
-    assert_eq!(rt; on_module(&rt, rt.alloc(), 100, 4, 1, Case::Unfit)?, true);
+    let same = on_module(&rt, rt.alloc(), 0, 5, 1, |layer| {
+        assert_eq!(rt; layer.sectors(), 0);
+        refuses(&rt, layer, Refusal::NoSuchSector)
+    })?;
+    assert_eq!(rt; same, true);
+    let same = on_module(&rt, rt.alloc(), 100, 4, 1, |layer| {
+        assert_eq!(rt; layer.sectors(), 0);
+        refuses(&rt, layer, Refusal::NoSuchSector)
+    })?;
+    assert_eq!(rt; same, true);
     Ok(())
 }

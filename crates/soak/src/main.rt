@@ -4,14 +4,17 @@
 
 #![tactic(auto)]
 
-use anyhow::anyhow;
+use anyhow::{Context, anyhow};
 use chips::blank::blank_image;
+use fast::fit::Plan;
 use fast::layer::{Found, Layer};
 use flash::chip::ImageChip;
-use flash::device::Device;
+use flash::device::{Device, SECTOR_SIZE};
 use flash::join::Join;
 use flash::numbers::{Block, Sector};
 use image::shape::Geometry;
+use std::alloc::Global;
+use std::array;
 
 // Each shape is two chips of `blocks` blocks, of which a layer is made.
 #[derive(Clone, Copy)]
@@ -58,7 +61,7 @@ const SHAPES: [Shape; 5] = [
 const CALLS: u32 = 3_000;
 
 // What was counted on one shape: calls past the last sector that were refused, overwrites, erases that writes told, and what was wrong.
-#[derive(Clone, Copy)]
+#[derive(Clone, Copy, Default)]
 struct Tally {
     refused: u32,
     overwrites: u32,
@@ -84,36 +87,29 @@ impl Random {
             .0
             .wrapping_mul(6_364_136_223_846_793_005)
             .wrapping_add(1_442_695_040_888_963_407);
-        if below == 0 {
-            return 0;
-        }
-        ((self.0 >> 33) as u32) % below
+        ((self.0 >> 33) as u32).checked_rem(below).unwrap_or(0)
     }
 }
 
 // The bytes that a number stands for: its four bytes, over and over.
-fn content(number: u32) -> [u8; 512] {
+fn content(number: u32) -> [u8; SECTOR_SIZE] {
     let four = number.to_le_bytes();
-    let mut bytes = [0u8; 512];
-    for (i, byte) in bytes.iter_mut().enumerate() {
-        *byte = four[i % 4];
-    }
-    bytes
+    array::from_fn(|i| four[i % 4])
 }
 
 // Whether a read of this sector gives what the ledger has for it.
 fn agrees<D: Device>(layer: &Layer<D>, n: u32, line: Option<u32>) -> bool {
-    let mut buffer = [1u8; 512];
+    let mut buffer = [1u8; SECTOR_SIZE];
     match (layer.read(Sector(n), &mut buffer), line) {
         (Ok(Found::Bytes), Some(number)) => buffer == content(number),
-        (Ok(Found::NeverWritten), None) => buffer == [0xFF; 512],
+        (Ok(Found::NeverWritten), None) => buffer == [0xFF; SECTOR_SIZE],
         _ => false,
     }
 }
 
 // One sector past the last: a write and a read have to be refused.
 fn try_past_end<D: Device>(layer: &mut Layer<D>, n: u32, tally: &mut Tally) {
-    let mut buffer = [1u8; 512];
+    let mut buffer = [1u8; SECTOR_SIZE];
     if layer.write(Sector(n), &buffer).is_err() && layer.read(Sector(n), &mut buffer).is_err() {
         tally.refused = tally.refused.saturating_add(1);
     }
@@ -146,26 +142,20 @@ fn step<D: Device>(
     call: u32,
     tally: &mut Tally,
 ) {
-    let n = random.next(ledger.len().min(100_000) as u32 + 1);
+    let n = random.next(layer.sectors().saturating_add(1));
     let writes = random.next(3) != 0;
-    if n as usize >= ledger.len() {
-        try_past_end(layer, n, tally);
-    } else if writes {
-        write(layer, n, call, &mut ledger[n as usize], tally);
-    } else {
-        tally.expect(agrees(layer, n, ledger[n as usize]));
+    match ledger.get_mut(n as usize) {
+        None => try_past_end(layer, n, tally),
+        Some(line) if writes => write(layer, n, call, line, tally),
+        Some(line) => tally.expect(agrees(layer, n, *line)),
     }
 }
 
 // How often the blocks of a device were erased, all together.
 fn counted<D: Device>(device: &D) -> u32 {
-    let mut sum = 0u32;
-    for b in 0..device.blocks() {
-        if let Ok(count) = device.count(Block(b)) {
-            sum = sum.saturating_add(count);
-        }
-    }
-    sum
+    (0..device.blocks())
+        .filter_map(|b| device.count(Block(b)).ok())
+        .fold(0u32, |sum, count| sum.saturating_add(count))
 }
 
 // Format erased each block once; the rest are the erases that the writes told, at most w + w div P for w overwrites.
@@ -181,23 +171,32 @@ fn check_erases<D: Device>(device: &D, tally: &mut Tally) {
 }
 
 fn soak<D: Device>(layer: &mut Layer<D>, ledger: &mut [Option<u32>]) -> Tally {
-    let mut tally = Tally {
-        refused: 0,
-        overwrites: 0,
-        erases: 0,
-        wrong: 0,
-    };
+    let mut tally = Tally::default();
     let mut random = Random(1);
     for call in 0..CALLS {
         step(layer, ledger, &mut random, call, &mut tally);
     }
-    for (n, line) in ledger.iter().enumerate() {
-        if n < 100_000 {
-            tally.expect(agrees(layer, n as u32, *line));
-        }
+    for (n, line) in (0..layer.sectors()).zip(ledger.iter()) {
+        tally.expect(agrees(layer, n, *line));
     }
     check_erases(layer.device(), &mut tally);
     tally
+}
+
+// A blank chip, whose blocks bear 100,000 erases.
+fn blank_chip(heap: Global, blocks: u32, pages: u32) -> anyhow::Result<Vec<u8>> {
+    let geometry = Geometry {
+        blocks,
+        pages,
+        life: 100_000,
+    };
+    blank_image(heap, geometry).map_err(|_| anyhow!("no memory for the chips"))
+}
+
+fn format<D: Device + Drop>(heap: Global, device: D, plan: Plan) -> anyhow::Result<Layer<D>> {
+    Layer::format(heap, device, plan)
+        .map_err(|(_, error)| error)
+        .context("no memory for the tables")
 }
 
 fn run(rt: &HostRuntime, shape: Shape) -> anyhow::Result<()> {
@@ -207,42 +206,27 @@ fn run(rt: &HostRuntime, shape: Shape) -> anyhow::Result<()> {
         logical,
         random,
     } = shape;
-    let geometry = Geometry {
-        blocks,
-        pages,
-        life: 100_000,
+    let mut left = blank_chip(rt.alloc(), blocks, pages)?;
+    let mut right = blank_chip(rt.alloc(), blocks, pages)?;
+    let device = Join::new(ImageChip::new(&mut left), ImageChip::new(&mut right));
+    let plan = Plan {
+        logical,
+        random,
+        first_stamp: 1,
     };
-    let (Ok(mut left), Ok(mut right)) = (
-        blank_image(rt.alloc(), geometry),
-        blank_image(rt.alloc(), geometry),
-    ) else {
-        return Err(anyhow!("no memory for the chips"));
-    };
-    let device = Join {
-        first: ImageChip::new(&mut left),
-        second: ImageChip::new(&mut right),
-    };
-    let Ok(mut layer) = Layer::format(rt.alloc(), device, logical, random, 1) else {
-        return Err(anyhow!("no memory for the tables"));
-    };
+    let mut layer = format(rt.alloc(), device, plan)?;
     let sectors = layer.sectors();
     let mut ledger = vec![in rt.alloc(); None; sectors as usize]?;
-    let tally = soak(&mut layer, &mut ledger);
-    let refused = tally.refused;
-    let wrong = tally.wrong;
+    let Tally { refused, wrong, .. } = soak(&mut layer, &mut ledger);
     println!(rt;
         "pages {pages} logical {logical} random {random}: sectors {sectors} calls {CALLS} refused {refused} wrong {wrong}"
     )?;
     Ok(())
 }
 
-fn run_all(rt: &HostRuntime) -> anyhow::Result<()> {
-    for shape in SHAPES.iter() {
-        run(rt, *shape)?;
+fn main(rt: HostRuntime) -> anyhow::Result<()> {
+    for shape in SHAPES {
+        run(&rt, shape)?;
     }
     Ok(())
-}
-
-fn main(rt: HostRuntime) -> anyhow::Result<()> {
-    run_all(&rt)
 }

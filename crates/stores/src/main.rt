@@ -8,6 +8,7 @@
 use anyhow::anyhow;
 use chips::blank::blank_image;
 use console::respond::{MOST_BYTES, respond};
+use fast::fit::Plan;
 use fast::layer::Layer;
 use flash::chip::ImageChip;
 use image::shape::Geometry;
@@ -46,7 +47,15 @@ fn run_spread(rt: &HostRuntime, input: &[u8]) -> anyhow::Result<()> {
     let Ok(mut image) = blank_image(rt.alloc(), GEOMETRY) else {
         return Err(anyhow!("no memory for the chip"));
     };
-    let Ok(layer) = Layer::format(rt.alloc(), ImageChip::new(&mut image), 4, 2, 1) else {
+    let Ok(layer) = Layer::format(
+        rt.alloc(),
+        ImageChip::new(&mut image),
+        Plan {
+            logical: 4,
+            random: 2,
+            first_stamp: 1,
+        },
+    ) else {
         return Err(anyhow!("no memory for the tables"));
     };
     let mut bytes = vec![in rt.alloc(); 0u8; 8 * PLAIN_SECTOR]?;

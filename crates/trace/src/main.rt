@@ -7,9 +7,10 @@
 
 #![tactic(auto)]
 
-use anyhow::anyhow;
+use anyhow::{Context, anyhow};
 use chips::blank::blank_image;
 use chips::module::{LEFT_BLOCKS, RIGHT_BLOCKS, two_chips};
+use fast::fit::Plan;
 use fast::layer::Layer;
 use flash::chip::ImageChip;
 use flash::device::{Device, SECTOR_SIZE};
@@ -30,20 +31,27 @@ const WRITES: [u32; 36] = [
     6, 9, 10, 11, 1, 2, 3,
 ];
 
-// A chip of so many blocks, 4 pages each, with a life of 100.
-fn chip_of(blocks: u32) -> Geometry {
-    Geometry {
+const PLAN: Plan = Plan {
+    logical: 4,
+    random: 2,
+    first_stamp: 1,
+};
+
+// A blank chip of so many blocks, 4 pages each, with a life of 100.
+fn blank_chip(heap: Global, blocks: u32) -> anyhow::Result<Vec<u8>> {
+    let geometry = Geometry {
         blocks,
         pages: 4,
         life: 100,
-    }
+    };
+    blank_image(heap, geometry).map_err(|_| anyhow!("no memory for the chips"))
 }
 
 fn write_all<D: Device>(layer: &mut Layer<D>) -> anyhow::Result<()> {
-    for n in WRITES.iter() {
-        if layer.write(Sector(*n), &[0; SECTOR_SIZE]).is_err() {
-            return Err(anyhow!("a write was refused"));
-        }
+    for n in WRITES {
+        layer
+            .write(Sector(n), &[0; SECTOR_SIZE])
+            .context("a write was refused")?;
     }
     Ok(())
 }
@@ -55,25 +63,15 @@ fn print_all(rt: &HostRuntime, operations: &[Operation]) -> anyhow::Result<()> {
     Ok(())
 }
 
-fn run(rt: &HostRuntime) -> anyhow::Result<()> {
+fn main(rt: HostRuntime) -> anyhow::Result<()> {
     let heap = rt.alloc();
-    let (Ok(mut left), Ok(mut right)) = (
-        blank_image(heap, chip_of(LEFT_BLOCKS)),
-        blank_image(heap, chip_of(RIGHT_BLOCKS)),
-    ) else {
-        return Err(anyhow!("no memory for the chips"));
-    };
+    let mut left = blank_chip(heap, LEFT_BLOCKS)?;
+    let mut right = blank_chip(heap, RIGHT_BLOCKS)?;
     let module = two_chips(ImageChip::new(&mut left), ImageChip::new(&mut right));
     let device = Recorder::new(module, Log::new(heap)?);
-    match Layer::format(heap, device, 4, 2, 1) {
-        Err(_) => Err(anyhow!("no memory for the tables")),
-        Ok(mut layer) => {
-            write_all(&mut layer)?;
-            print_all(rt, layer.device().operations())
-        }
-    }
-}
-
-fn main(rt: HostRuntime) -> anyhow::Result<()> {
-    run(&rt)
+    let mut layer = Layer::format(heap, device, PLAN)
+        .map_err(|(_, error)| error)
+        .context("no memory for the tables")?;
+    write_all(&mut layer)?;
+    print_all(&rt, layer.device().operations())
 }

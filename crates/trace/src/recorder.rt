@@ -1,7 +1,7 @@
 // A device over any device, which writes down the first 80 programs and erases that it is asked for, refused ones too, and is otherwise
 // the device below. It shows in which order a layer works.
 
-ghost use Rattle.std.specs.Prelude.{◌≡◌, [], length, IfOk};
+ghost use Rattle.std.specs.Prelude.{◌≡◌, length};
 ghost use Rattle.flash.specs.Calls.{program_answer, programmed, erase_answer, erased};
 ghost use Rattle.flash.specs.Told.{done_told};
 ghost use Rattle.trace.specs.declared.operation.Operation.TheVariants.{Program, Erase};
@@ -11,28 +11,6 @@ use crate::log::Log;
 use crate::operation::Operation;
 use flash::device::{Device, Mark, Refusal};
 use flash::numbers::{Block, PageOffset};
-use std::alloc::{AllocError, Global};
-
-// How many operations are written down.
-const MOST_OPERATIONS: usize = 80;
-
-impl Log {
-    pub(crate) fn new(heap: Global) -> Result<Log, AllocError>
-        ensures { IfOk result (λ log. log.operations.items ≡ []) }
-    {
-        let operations = Vec::with_capacity(heap, MOST_OPERATIONS)?;
-        Ok(Log { operations })
-    }
-
-    // Writes an operation down, unless there are 80 already.
-    fn note(&mut self, operation: Operation)
-        ensures { self.new.operations.items ≡ noted self.old.operations.items operation }
-    {
-        if self.operations.len() < MOST_OPERATIONS {
-            self.operations.push_reserved(operation);
-        }
-    }
-}
 
 #[derive(Drop)]
 pub struct Recorder<D: Device> {

@@ -9,29 +9,23 @@ ghost use Rattle.fast.specs.Leaves.{page_told, fresh_view, Carries};
 use crate::numbers::LogicalBlock;
 use crate::steps::Fresh;
 use crate::tables::Tables;
-use flash::device::{Device, Mark};
+use flash::device::{Device, Mark, SECTOR_SIZE};
 use flash::numbers::{Block, PageOffset};
 
 // What the device shows of a page, with its bytes in the buffer: nothing where it refuses the read.
 fn see<D: Device>(device: &D, block: Block, page: PageOffset, buffer: &mut [u8]) -> Option<Mark>
-    requires { length buffer.old ≡ 512 }
+    requires { length buffer.old ≡ SECTOR_SIZE }
     ensures { page_told result buffer.new ≡ seen (D.Device.flash device.now) block.0 page.0 }
 {
-    match device.read(block, page, buffer) {
-        Ok(mark) => mark,
-        Err(_) => None,
-    }
+    device.read(block, page, buffer).unwrap_or(None)
 }
 
 // Whether a page is shown as blank.
 pub(crate) fn vacant<D: Device>(device: &D, block: Block, page: PageOffset) -> bool
     ensures { result ≡ is_blank (seen (D.Device.flash device.now) block.0 page.0) }
 {
-    let mut buffer = [0u8; 512];
-    match see(device, block, page, &mut buffer) {
-        None => true,
-        Some(_) => false,
-    }
+    let mut buffer = [0u8; SECTOR_SIZE];
+    see(device, block, page, &mut buffer).is_none()
 }
 
 // Copies the page in the place of an offset, mark and all; a blank one stays blank. Says how many pages that is.
@@ -48,7 +42,7 @@ fn copy_page<D: Device>(
     ensures few { result ≤ 1 }
 {
     let (block, page) = tables.place(c, o);
-    let mut buffer = [0u8; 512];
+    let mut buffer = [0u8; SECTOR_SIZE];
     match see(device, block, page, &mut buffer) {
         None => 0,
         Some(mark) => {
@@ -63,23 +57,22 @@ fn carry<D: Device>(
     device: &mut D,
     tables: &Tables,
     fresh: Option<Fresh>,
-    bytes: &[u8],
     c: LogicalBlock,
     to: Block,
     o: PageOffset,
 ) -> u32
     requires known { c.0 < tables.now.sizes.logical }
     requires fits { o.0 < tables.now.sizes.pages }
-    ensures work { Carries D.Device.flash (transfer tables.now.sizes.pages (fresh_view fresh bytes.now) c.0 to.0 o.0) device.old tables.now device.new result }
+    ensures work { Carries D.Device.flash (transfer tables.now.sizes.pages (fresh_view fresh.entry) c.0 to.0 o.0) device.old tables.now device.new result }
     ensures few { result ≤ 1 }
 {
-    if let Some(new) = fresh {
-        if new.offset.0 == o.0 {
-            let _ = device.program(to, o, new.mark, bytes);
-            return 0;
+    match fresh {
+        Some(new) if new.offset == o => {
+            let _ = device.program(to, o, new.page.mark, new.page.bytes);
+            0
         }
+        _ => copy_page(device, tables, c, to, o),
     }
-    copy_page(device, tables, c, to, o)
 }
 
 // Gives a block the pages of the offsets from `first` on, in order. Says how many were copied.
@@ -87,19 +80,18 @@ pub(crate) fn carry_from<D: Device>(
     device: &mut D,
     tables: &Tables,
     fresh: Option<Fresh>,
-    bytes: &[u8],
     c: LogicalBlock,
     to: Block,
     first: u32,
 ) -> u32
     requires known { c.0 < tables.now.sizes.logical }
     requires fits { first ≤ tables.now.sizes.pages }
-    ensures work { Carries D.Device.flash (each (transfer tables.now.sizes.pages (fresh_view fresh bytes.now) c.0 to.0) first (tables.now.sizes.pages - first)) device.old tables.now device.new result }
+    ensures work { Carries D.Device.flash (each (transfer tables.now.sizes.pages (fresh_view fresh.entry) c.0 to.0) first (tables.now.sizes.pages - first)) device.old tables.now device.new result }
     ensures few { result ≤ tables.now.sizes.pages }
 {
     let mut copies = 0;
     for o in first..tables.sizes.pages {
-        copies += carry(device, tables, fresh, bytes, c, to, PageOffset(o));
+        copies += carry(device, tables, fresh, c, to, PageOffset(o));
     }
     copies
 }

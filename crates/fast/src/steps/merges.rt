@@ -7,8 +7,8 @@ ghost use Rattle.std.specs.Prelude.{◌≡◌, ◌<◌, ◌≤◌, [], ◌∷◌
 ghost use Rattle.scheme.specs.Roles.{finished};
 ghost use Rattle.scheme.specs.Steps.{merge, merge_free, settle};
 ghost use Rattle.scheme.specs.Tables.{owned};
-ghost use Rattle.fast.specs.Leaves.{fresh_view, Does};
-ghost use Rattle.fast.specs.Meaning.{view_of, Sized, Logged};
+ghost use Rattle.fast.specs.Leaves.{fresh_view, DoesSized};
+ghost use Rattle.fast.specs.Meaning.{view_of, Logged};
 ghost use Rattle.fast.specs.Views.{sw_view};
 
 use crate::numbers::LogicalBlock;
@@ -23,24 +23,18 @@ fn merge_free<D: Device>(
     device: &mut D,
     tables: Tables,
     fresh: Option<Fresh>,
-    bytes: &[u8],
     c: LogicalBlock,
 ) -> Step
     requires known { c.0 < tables.sizes.logical }
     requires unowned { owned c.0 (sw_view tables.sw) ≡ None }
-    ensures work { Does D.Device.flash (merge_free tables.sizes.pages (fresh_view fresh bytes.now) c.0 (view_of tables).free ((view_of tables).data_block c.0 ∷ [])) device.old tables device.new result }
+    ensures work { DoesSized D.Device.flash (merge_free tables.sizes.pages (fresh_view fresh.entry) c.0 (view_of tables).free ((view_of tables).data_block c.0 ∷ [])) device.old tables device.new result }
     ensures few { (result.erases ≤ 1) × (result.copies ≤ tables.sizes.pages) }
-    ensures sized { Sized result.tables tables }
     ensures logged { Logged result.tables tables }
 {
     let Some(to) = tables.free.front() else {
-        return Step {
-            tables,
-            erases: 0,
-            copies: 0,
-        };
+        return Step::new(tables);
     };
-    let copies = carry_from(device, &tables, fresh, bytes, c, to, 0);
+    let copies = carry_from(device, &tables, fresh, c, to, 0);
     let (tables, old) = tables.renew(c);
     let _ = device.erase(old);
     Step {
@@ -55,17 +49,15 @@ pub(crate) fn merge_sw<D: Device>(
     device: &mut D,
     tables: Tables,
     fresh: Option<Fresh>,
-    bytes: &[u8],
     sw: Sw,
 ) -> Step
     requires has { tables.sw ≡ Some sw }
-    ensures work { Does D.Device.flash (merge tables.sizes.pages finished (fresh_view fresh bytes.now) sw.owner.0 sw.block.0 sw.fill (view_of tables).free ((view_of tables).data_block sw.owner.0 ∷ [])) device.old tables device.new result }
+    ensures work { DoesSized D.Device.flash (merge tables.sizes.pages finished (fresh_view fresh.entry) sw.owner.0 sw.block.0 sw.fill (view_of tables).free ((view_of tables).data_block sw.owner.0 ∷ [])) device.old tables device.new result }
     ensures few { (result.erases ≤ 1) × (result.copies ≤ tables.sizes.pages) }
     ensures none { result.tables.sw ≡ None }
-    ensures sized { Sized result.tables tables }
     ensures logged { Logged result.tables tables }
 {
-    let copies = carry_from(device, &tables, fresh, bytes, sw.owner, sw.block, sw.fill);
+    let copies = carry_from(device, &tables, fresh, sw.owner, sw.block, sw.fill);
     let (tables, old) = tables.adopt(sw);
     let _ = device.erase(old);
     Step {
@@ -80,22 +72,16 @@ pub(crate) fn merge_over<D: Device>(
     device: &mut D,
     tables: Tables,
     fresh: Option<Fresh>,
-    bytes: &[u8],
     sw: Sw,
 ) -> Step
     requires has { tables.sw ≡ Some sw }
-    ensures work { Does D.Device.flash (merge_free tables.sizes.pages (fresh_view fresh bytes.now) sw.owner.0 (view_of tables).free ((view_of tables).data_block sw.owner.0 ∷ sw.block.0 ∷ [])) device.old tables device.new result }
+    ensures work { DoesSized D.Device.flash (merge_free tables.sizes.pages (fresh_view fresh.entry) sw.owner.0 (view_of tables).free ((view_of tables).data_block sw.owner.0 ∷ sw.block.0 ∷ [])) device.old tables device.new result }
     ensures few { (result.erases ≤ 2) × (result.copies ≤ tables.sizes.pages) }
-    ensures sized { Sized result.tables tables }
 {
     let Some(to) = tables.free.front() else {
-        return Step {
-            tables,
-            erases: 0,
-            copies: 0,
-        };
+        return Step::new(tables);
     };
-    let copies = carry_from(device, &tables, fresh, bytes, sw.owner, to, 0);
+    let copies = carry_from(device, &tables, fresh, sw.owner, to, 0);
     let (tables, old) = tables.replace(sw);
     let _ = device.erase(old);
     let _ = device.erase(sw.block);
@@ -111,17 +97,15 @@ pub(crate) fn settle<D: Device>(
     device: &mut D,
     tables: Tables,
     fresh: Option<Fresh>,
-    bytes: &[u8],
     c: LogicalBlock,
 ) -> Step
     requires known { c.0 < tables.sizes.logical }
-    ensures work { Does D.Device.flash (settle tables.sizes.pages (fresh_view fresh bytes.now) c.0) device.old tables device.new result }
+    ensures work { DoesSized D.Device.flash (settle tables.sizes.pages (fresh_view fresh.entry) c.0) device.old tables device.new result }
     ensures few { (result.erases ≤ 1) × (result.copies ≤ tables.sizes.pages) }
-    ensures sized { Sized result.tables tables }
     ensures logged { Logged result.tables tables }
 {
     match tables.owned(c) {
-        Some(sw) => merge_sw(device, tables, fresh, bytes, sw),
-        None => merge_free(device, tables, fresh, bytes, c),
+        Some(sw) => merge_sw(device, tables, fresh, sw),
+        None => merge_free(device, tables, fresh, c),
     }
 }

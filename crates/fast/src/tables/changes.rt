@@ -1,8 +1,12 @@
 // The changes of the tables, each made whole: which blocks change their role is said by the clause `roles`, through the match of role and
 // event. The tables are taken apart by a pattern, their parts change in place, and a literal makes them again, which owes every rule of the
 // tables once. A block that is given up goes to the back of the free list here; the caller erases it before anything else.
+//
+// `sized` stands beside each equation `tables`: what the tables mean says nothing of the sizes, and one definition of both would hide the
+// equation.
 
-ghost use Rattle.std.specs.Prelude.{◌≡◌, ◌+◌, ◌-◌, ◌*◌, ◌<◌, ◌≤◌, [], ◌∷◌, ◌++◌, drop, Some, None, vec_len, nat_eq, slice_index};
+ghost use Rattle.std.specs.Prelude.{◌≡◌, ◌+◌, ◌-◌, ◌*◌, ◌<◌, ◌≤◌, [], ◌∷◌, ◌++◌, drop, Some, None, nat_eq, slice_index};
+ghost use Rattle.std.specs.VecDeque.{deque_len};
 ghost use Rattle.scheme.specs.Roles.{Led, taken_as_data, taken_as_sequential, taken_as_random, finished, erased};
 ghost use Rattle.scheme.specs.Steps.{merged, turn};
 ghost use Rattle.scheme.specs.Tables.{owned, stale_all, live, with_sequential, with_random, with_free, with_next};
@@ -20,7 +24,7 @@ impl Tables {
     pub(crate) fn renew(self, c: LogicalBlock) -> (Tables, Block)
         requires known { c.0 < self.sizes.logical }
         requires unowned { owned c.0 (sw_view self.sw) ≡ None }
-        requires some { 0 < vec_len self.free.blocks }
+        requires some { 0 < deque_len self.free.blocks }
         ensures tables { view_of result.0 ≡ merged self.sizes.pages c.0 (front_of self) (rest_of self) ((view_of self).data_block c.0 ∷ []) (view_of self) }
         ensures old { result.1.0 ≡ (view_of self).data_block c.0 }
         ensures roles { Led self.sizes.blocks (view_of self) (turn taken_as_data (front_of self) ∷ turn erased ((view_of self).data_block c.0) ∷ []) (view_of result.0) }
@@ -93,7 +97,7 @@ impl Tables {
     // free.
     pub(crate) fn replace(self, sw: Sw) -> (Tables, Block)
         requires has { self.sw ≡ Some sw }
-        requires some { 0 < vec_len self.free.blocks }
+        requires some { 0 < deque_len self.free.blocks }
         ensures tables { view_of result.0 ≡ merged self.sizes.pages sw.owner.0 (front_of self) (rest_of self) ((view_of self).data_block sw.owner.0 ∷ sw.block.0 ∷ []) (view_of self) }
         ensures old { result.1.0 ≡ (view_of self).data_block sw.owner.0 }
         ensures roles { Led self.sizes.blocks (view_of self) (turn taken_as_data (front_of self) ∷ turn erased ((view_of self).data_block sw.owner.0) ∷ turn erased sw.block.0 ∷ []) (view_of result.0) }
@@ -134,7 +138,7 @@ impl Tables {
     pub(crate) fn open(self, owner: LogicalBlock) -> Tables
         requires known { owner.0 < self.sizes.logical }
         requires none { self.sw ≡ None }
-        requires some { 0 < vec_len self.free.blocks }
+        requires some { 0 < deque_len self.free.blocks }
         ensures tables { view_of result ≡ with_sequential (Some (record { owner = owner.0; block = front_of self; fill = 1 })) (with_free (rest_of self) (view_of self)) }
         ensures roles { Led self.sizes.blocks (view_of self) (turn taken_as_sequential (front_of self) ∷ []) (view_of result) }
         ensures sized { Sized result self }
@@ -192,13 +196,13 @@ impl Tables {
 
     // The first free block becomes the last random log block.
     pub(crate) fn take_log(self) -> Tables
-        requires fewer { vec_len self.rw.blocks < self.sizes.random }
-        requires full { self.sizes.pages * vec_len self.rw.blocks ≤ vec_len self.rw.entries }
-        requires some { 0 < vec_len self.free.blocks }
+        requires fewer { deque_len self.rw.blocks < self.sizes.random }
+        requires full { self.sizes.pages * deque_len self.rw.blocks ≤ deque_len self.rw.entries }
+        requires some { 0 < deque_len self.free.blocks }
         ensures tables { view_of result ≡ with_random ((view_of self).logs ++ (front_of self ∷ [])) (view_of self).entries (with_free (rest_of self) (view_of self)) }
         ensures roles { Led self.sizes.blocks (view_of self) (turn taken_as_random (front_of self) ∷ []) (view_of result) }
         ensures sized { Sized result self }
-        ensures room { vec_len result.rw.entries < result.sizes.pages * vec_len result.rw.blocks }
+        ensures room { deque_len result.rw.entries < result.sizes.pages * deque_len result.rw.blocks }
     {
         let Tables {
             sizes,
@@ -223,7 +227,7 @@ impl Tables {
     // A sector is in the next page of the random log blocks.
     pub(crate) fn note(self, sector: Sector) -> Tables
         requires known { sector.0 < self.sizes.logical * self.sizes.pages }
-        requires room { vec_len self.rw.entries < self.sizes.pages * vec_len self.rw.blocks }
+        requires room { deque_len self.rw.entries < self.sizes.pages * deque_len self.rw.blocks }
         ensures tables { view_of result ≡ with_random (view_of self).logs (stale_all (λ m. nat_eq m sector.0) (view_of self).entries ++ (live sector.0 ∷ [])) (view_of self) }
         ensures sized { Sized result self }
     {
@@ -249,14 +253,14 @@ impl Tables {
 
     // The oldest random log block is free. Answers it.
     pub(crate) fn retire(self) -> (Tables, Block)
-        requires some { 0 < vec_len self.rw.blocks }
-        requires long { self.sizes.pages ≤ vec_len self.rw.entries }
+        requires some { 0 < deque_len self.rw.blocks }
+        requires long { self.sizes.pages ≤ deque_len self.rw.entries }
         ensures tables { view_of result.0 ≡ with_random (drop 1 (view_of self).logs) (drop self.sizes.pages (view_of self).entries) (with_free ((view_of self).free ++ (slice_index (view_of self).logs 0 ∷ [])) (view_of self)) }
         ensures block { result.1.0 ≡ slice_index (view_of self).logs 0 }
         ensures roles { Led self.sizes.blocks (view_of self) (turn erased (slice_index (view_of self).logs 0) ∷ []) (view_of result.0) }
         ensures sized { Sized result.0 self }
-        ensures logs { vec_len result.0.rw.blocks + 1 ≡ vec_len self.rw.blocks }
-        ensures entries { vec_len result.0.rw.entries ≡ vec_len self.rw.entries - self.sizes.pages }
+        ensures logs { deque_len result.0.rw.blocks + 1 ≡ deque_len self.rw.blocks }
+        ensures entries { deque_len result.0.rw.entries ≡ deque_len self.rw.entries - self.sizes.pages }
     {
         let Tables {
             sizes,

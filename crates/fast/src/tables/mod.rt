@@ -4,7 +4,8 @@
 // each place that makes a value owes them. That is why tables are only ever written whole, taken apart by a pattern and made again by a
 // literal, while their parts change in place. The lists are reserved whole at format, so that nothing here can fail for want of memory.
 
-ghost use Rattle.std.specs.Prelude.{◌≡◌, ◌+◌, ◌*◌, ◌<◌, ◌≤◌, vec_len, vec_capacity};
+ghost use Rattle.std.specs.Prelude.{◌≡◌, ◌+◌, ◌*◌, ◌<◌, ◌≤◌, vec_len};
+ghost use Rattle.std.specs.VecDeque.{deque_len, deque_capacity};
 ghost use Rattle.fast.specs.Rules.{OneRole, OneLive, busy, owner_of, fill_of};
 ghost use Rattle.fast.specs.Views.{entries_view};
 
@@ -33,6 +34,15 @@ pub(crate) struct Sizes {
     ghost blocks_fit: { (blocks ≤ 512) × (logical + random + 2 ≤ blocks) },
 }
 
+impl Sizes {
+    // How many sectors there are.
+    pub(crate) fn sectors(&self) -> u32
+        ensures { result ≡ self.now.logical * self.now.pages }
+    {
+        self.logical * self.pages
+    }
+}
+
 // The block map has the data block of each logical block. `all_blocks` counts the blocks by their roles: with `blocks_fit` and
 // `few_logs` it shows that there is a free block whenever one is taken.
 #[derive(Drop)]
@@ -48,11 +58,11 @@ pub(crate) struct Tables {
     ghost owned: { owner_of sw < sizes.logical },
     ghost filled: { (busy sw ≤ fill_of sw) × (fill_of sw ≤ sizes.pages) },
     ghost mapped: { vec_len map ≡ sizes.logical },
-    ghost all_blocks: { sizes.logical + busy sw + vec_len rw.blocks + vec_len free.blocks ≡ sizes.blocks },
-    ghost few_logs: { vec_len rw.blocks ≤ sizes.random },
-    ghost entries_fit: { vec_len rw.entries ≤ sizes.pages * vec_len rw.blocks },
-    ghost logs_full: { sizes.pages * vec_len rw.blocks ≤ vec_len rw.entries + sizes.pages },
-    ghost room_logs: { sizes.random ≤ vec_capacity rw.blocks },
-    ghost room_entries: { sizes.pages * sizes.random ≤ vec_capacity rw.entries },
-    ghost room_free: { sizes.blocks ≤ vec_capacity free.blocks },
+    ghost all_blocks: { sizes.logical + busy sw + deque_len rw.blocks + deque_len free.blocks ≡ sizes.blocks },
+    ghost few_logs: { deque_len rw.blocks ≤ sizes.random },
+    ghost entries_fit: { deque_len rw.entries ≤ sizes.pages * deque_len rw.blocks },
+    ghost logs_full: { sizes.pages * deque_len rw.blocks ≤ deque_len rw.entries + sizes.pages },
+    ghost room_logs: { sizes.random ≤ deque_capacity rw.blocks },
+    ghost room_entries: { sizes.pages * sizes.random ≤ deque_capacity rw.entries },
+    ghost room_free: { sizes.blocks ≤ deque_capacity free.blocks },
 }

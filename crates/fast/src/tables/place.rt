@@ -8,7 +8,6 @@ ghost use Rattle.fast.specs.Views.{sw_view};
 
 use crate::numbers::LogicalBlock;
 use crate::tables::Tables;
-use crate::tables::random::find_entry;
 use crate::tables::sequential::Sw;
 use flash::numbers::{Block, PageOffset, Sector};
 
@@ -18,13 +17,7 @@ impl Tables {
         ensures view { sw_view result ≡ owned c.0 (sw_view self.now.sw) }
         ensures has { IfSome result (λ k. (self.now.sw ≡ Some k) × (k.owner.0 ≡ c.0)) }
     {
-        let Some(sw) = self.sw else {
-            return None;
-        };
-        if sw.owner.0 == c.0 {
-            return Some(sw);
-        }
-        None
+        self.sw.filter(|sw| sw.owner == c)
     }
 
     // The page in the random log blocks that holds a sector, if one does, else the page of its data block.
@@ -35,7 +28,7 @@ impl Tables {
         ensures page { result.1.0 ≡ (behind self.now.sizes.pages (view_of self.now) c.0 o.0).page }
     {
         let sector = Sector(c.0 * self.sizes.pages + o.0);
-        match find_entry(&self.rw.entries, sector) {
+        match self.rw.find(sector) {
             Some(i) => {
                 let pages = self.sizes.pages as usize;
                 (self.rw.blocks[i / pages], PageOffset((i % pages) as u32))
@@ -50,12 +43,9 @@ impl Tables {
         ensures block { result.0.0 ≡ (place self.now.sizes.pages (view_of self.now) c.0 o.0).block }
         ensures page { result.1.0 ≡ (place self.now.sizes.pages (view_of self.now) c.0 o.0).page }
     {
-        let Some(sw) = self.sw else {
-            return self.behind(c, o);
-        };
-        if sw.has(c, o) {
-            return (sw.block, o);
+        match self.sw {
+            Some(sw) if sw.has(c, o) => (sw.block, o),
+            _ => self.behind(c, o),
         }
-        self.behind(c, o)
     }
 }

@@ -3,16 +3,18 @@
 // Blocks and entries stand oldest first. Only filled pages have an entry, so entry i is that of page i mod P of block i div P, the next
 // page to fill is at the number of entries, and "all full but perhaps the last" is a bound on two lengths.
 
-ghost use Rattle.std.specs.Prelude.{◌≡◌, ◌+◌, ◌-◌, ◌*◌, ◌/◌, ◌^◌, ◌<◌, ◌≤◌, [], ◌∷◌, ◌++◌, length, drop, IfSome, vec_len, vec_capacity, nat_eq, slice_index};
+ghost use Rattle.std.specs.Prelude.{◌≡◌, ◌+◌, ◌-◌, ◌*◌, ◌/◌, ◌^◌, ◌<◌, ◌≤◌, [], ◌∷◌, ◌++◌, drop, IfSome, nat_eq, slice_index};
+ghost use Rattle.std.specs.VecDeque.{deque_len, deque_capacity};
 ghost use Rattle.scheme.specs.Place.{entry_of};
 ghost use Rattle.scheme.specs.Tables.{stale_all, live};
 ghost use Rattle.fast.specs.Views.{numbers, entries_view, expired_entry, in_run};
 
 use crate::numbers::LogicalBlock;
 use flash::numbers::{Block, Sector};
+use std::collections::VecDeque;
 
 // What a filled page holds: the newest bytes of a sector, or nothing of use any more.
-#[derive(Clone, Copy)]
+#[derive(Clone, Copy, PartialEq, Eq, Debug)]
 pub(crate) enum Entry {
     Live(Sector),
     Stale,
@@ -34,48 +36,42 @@ fn expire_entries(entries: &mut [Entry], first: Sector, count: u32)
     ensures { entries_view entries.new ≡ stale_all (in_run first.0 count) (entries_view entries.old) }
 {
     for e in entries.iter_mut() {
-        *e = (*e).expired(first, count);
+        *e = e.expired(first, count);
     }
-}
-
-// The number of the live entry of a sector, if it has one.
-pub(crate) fn find_entry(entries: &[Entry], sector: Sector) -> Option<usize>
-    ensures entry { result ≡ entry_of sector.0 0 (entries_view entries.now) }
-    ensures within { IfSome result (λ i. i < length entries.now) }
-{
-    for (i, e) in entries.iter().enumerate() {
-        if let Entry::Live(n) = *e {
-            if n.0 == sector.0 {
-                return Some(i);
-            }
-        }
-    }
-    None
 }
 
 #[derive(Drop)]
 pub(crate) struct RwList {
-    pub blocks: Vec<Block>,
-    pub entries: Vec<Entry>,
+    pub blocks: VecDeque<Block>,
+    pub entries: VecDeque<Entry>,
 }
 
 impl RwList {
+    // The number of the live entry of a sector, if it has one.
+    pub(crate) fn find(&self, sector: Sector) -> Option<usize>
+        ensures entry { result ≡ entry_of sector.0 0 (entries_view self.now.entries.items) }
+        ensures within { IfSome result (λ i. i < deque_len self.now.entries) }
+    {
+        self.entries.iter().position(|e| *e == Entry::Live(sector))
+    }
+
     // Makes the live entries of `count` sectors from `first` on stale: their newest bytes stand elsewhere now.
     fn expire(&mut self, first: Sector, count: u32)
         ensures blocks { self.new.blocks ≡ self.old.blocks }
         ensures entries { entries_view self.new.entries.items ≡ stale_all (in_run first.0 count) (entries_view self.old.entries.items) }
-        ensures len { vec_len self.new.entries ≡ vec_len self.old.entries }
-        ensures room { vec_capacity self.new.entries ≡ vec_capacity self.old.entries }
+        ensures len { deque_len self.new.entries ≡ deque_len self.old.entries }
+        ensures room { deque_capacity self.new.entries ≡ deque_capacity self.old.entries }
     {
-        expire_entries(&mut self.entries, first, count);
+        // laid straight in place: what is written through `iter_mut` of a queue would not be known
+        expire_entries(self.entries.make_contiguous(), first, count);
     }
 
     // A sector was written elsewhere.
     pub(crate) fn expire_sector(&mut self, sector: Sector)
         ensures blocks { self.new.blocks ≡ self.old.blocks }
         ensures entries { entries_view self.new.entries.items ≡ stale_all (λ n. nat_eq n sector.0) (entries_view self.old.entries.items) }
-        ensures len { vec_len self.new.entries ≡ vec_len self.old.entries }
-        ensures room { vec_capacity self.new.entries ≡ vec_capacity self.old.entries }
+        ensures len { deque_len self.new.entries ≡ deque_len self.old.entries }
+        ensures room { deque_capacity self.new.entries ≡ deque_capacity self.old.entries }
     {
         self.expire(sector, 1);
     }
@@ -86,48 +82,46 @@ impl RwList {
         requires small { c.0 * pages < 2 ^ 32 }
         ensures blocks { self.new.blocks ≡ self.old.blocks }
         ensures entries { entries_view self.new.entries.items ≡ stale_all (λ n. nat_eq (n / pages) c.0) (entries_view self.old.entries.items) }
-        ensures len { vec_len self.new.entries ≡ vec_len self.old.entries }
-        ensures room { vec_capacity self.new.entries ≡ vec_capacity self.old.entries }
+        ensures len { deque_len self.new.entries ≡ deque_len self.old.entries }
+        ensures room { deque_capacity self.new.entries ≡ deque_capacity self.old.entries }
     {
         self.expire(Sector(c.0 * pages), pages);
     }
 
     // One more block at the end.
     pub(crate) fn add(&mut self, block: Block)
-        requires { vec_len self.old.blocks < vec_capacity self.old.blocks }
+        requires { deque_len self.old.blocks < deque_capacity self.old.blocks }
         ensures blocks { self.new.blocks.items ≡ self.old.blocks.items ++ (block ∷ []) }
-        ensures len { vec_len self.new.blocks ≡ vec_len self.old.blocks + 1 }
-        ensures room { vec_capacity self.new.blocks ≡ vec_capacity self.old.blocks }
+        ensures len { deque_len self.new.blocks ≡ deque_len self.old.blocks + 1 }
+        ensures room { deque_capacity self.new.blocks ≡ deque_capacity self.old.blocks }
         ensures entries { self.new.entries ≡ self.old.entries }
     {
-        self.blocks.push_reserved(block);
+        self.blocks.push_back_reserved(block);
     }
 
     // One more page is filled, with a sector.
     pub(crate) fn append(&mut self, sector: Sector)
-        requires { vec_len self.old.entries < vec_capacity self.old.entries }
+        requires { deque_len self.old.entries < deque_capacity self.old.entries }
         ensures blocks { self.new.blocks ≡ self.old.blocks }
         ensures entries { entries_view self.new.entries.items ≡ entries_view self.old.entries.items ++ (live sector.0 ∷ []) }
-        ensures len { vec_len self.new.entries ≡ vec_len self.old.entries + 1 }
-        ensures room { vec_capacity self.new.entries ≡ vec_capacity self.old.entries }
+        ensures len { deque_len self.new.entries ≡ deque_len self.old.entries + 1 }
+        ensures room { deque_capacity self.new.entries ≡ deque_capacity self.old.entries }
     {
-        self.entries.push_reserved(Entry::Live(sector));
+        self.entries.push_back_reserved(Entry::Live(sector));
     }
 
     // Drops the oldest block, with the entries of its pages.
     pub(crate) fn retire(&mut self, pages: u32) -> Block
-        requires some { 0 < vec_len self.old.blocks }
-        requires long { pages ≤ vec_len self.old.entries }
+        requires some { 0 < deque_len self.old.blocks }
+        requires long { pages ≤ deque_len self.old.entries }
         ensures block { result.0 ≡ slice_index (numbers self.old.blocks.items) 0 }
         ensures blocks { self.new.blocks.items ≡ drop 1 self.old.blocks.items }
-        ensures blocks_len { vec_len self.new.blocks + 1 ≡ vec_len self.old.blocks }
-        ensures blocks_room { vec_capacity self.new.blocks ≡ vec_capacity self.old.blocks }
+        ensures blocks_len { deque_len self.new.blocks + 1 ≡ deque_len self.old.blocks }
+        ensures blocks_room { deque_capacity self.new.blocks ≡ deque_capacity self.old.blocks }
         ensures entries { self.new.entries.items ≡ drop pages self.old.entries.items }
-        ensures room { vec_capacity self.new.entries ≡ vec_capacity self.old.entries }
+        ensures room { deque_capacity self.new.entries ≡ deque_capacity self.old.entries }
     {
-        let left = self.entries.len() - pages as usize;
-        self.entries.rotate_left(pages as usize);
-        self.entries.truncate(left);
-        self.blocks.remove(0)
+        self.entries.drain(..pages as usize);
+        self.blocks.pop_front().unwrap()
     }
 }

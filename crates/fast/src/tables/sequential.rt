@@ -6,7 +6,7 @@ use crate::numbers::LogicalBlock;
 use flash::numbers::{Block, PageOffset};
 
 // The pages below the fill hold the owner's offsets below the fill.
-#[derive(Clone, Copy)]
+#[derive(Clone, Copy, PartialEq, Eq, Debug)]
 pub(crate) struct Sw {
     pub owner: LogicalBlock,
     pub block: Block,
@@ -18,7 +18,7 @@ impl Sw {
     pub(crate) fn has(self, c: LogicalBlock, o: PageOffset) -> bool
         ensures { result ≡ (self.owner.0 == c.0) && nat_lt o.0 self.fill }
     {
-        self.owner.0 == c.0 && o.0 < self.fill
+        self.owner == c && o.0 < self.fill
     }
 
     // One more page is filled.

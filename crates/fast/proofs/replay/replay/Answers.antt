@@ -9,7 +9,7 @@ use Rattle.fast.proofs.replay.replay.Goals as goal
 
 pub returns : goal.returns
 returns g c =
-    let start : Start = started (g.D.Device.flash c.args.device) c.args.logical c.args.random c.args.first in
+    let start : Start = started (g.D.Device.flash c.args.device) c.args.plan.logical c.args.plan.random c.args.plan.first_stamp in
     let calls : List Call = calls_told (vec_items c.args.calls) in
     let e = c.in_ok-layer.ensures.after in
     record {

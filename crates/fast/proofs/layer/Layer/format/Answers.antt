@@ -1,21 +1,19 @@
 use Rattle.std.proofs.Common.{sym, ap, ◌∙◌, arith}
 use Rattle.scheme.proofs.Runs.{fits}
-use Rattle.fast.specs.Told.{unfit_number}
-use Rattle.fast.proofs.Formatted.{formats_nothing, formats_well}
+use Rattle.fast.proofs.Formatted.{formats_well, formats_unfit, is_fit}
 use Rattle.fast.proofs.Measures.{pages_of, logical_of, random_of}
 use Rattle.fast.proofs.Turns.{begun}
 use Rattle.fast.proofs.layer.Layer.format.Goals as goal
 
-pub returns-in-Err : goal.returns-in-Err
-returns-in-Err g c =
-    let f = g.D.Device.flash c.args.device in
-    let e = formats_nothing f c.args.logical c.args.random c.args.first (unfit_number c.in-Err.field-0) c.in-Err.ensures.answer in
+pub returns-then-is_err : goal.returns-then-is_err
+returns-then-is_err g c =
+    let e = formats_unfit (g.D.Device.flash c.args.device) c.args.plan.logical c.args.plan.random c.args.plan.first_stamp c.fit.result (c.if-is_err.ensures).value c.fit.ensures.answer in
     record { after = e; law = begun _ _ e; untouched = tt }
 
 pub invariant_of-sizes : goal.invariant_of-sizes
 invariant_of-sizes g c =
     let f = g.D.Device.flash c.args.device in
-    let h = fits f c.args.logical c.args.random (sym c.in_default.ensures.answer) in
+    let h = fits f c.args.plan.logical c.args.plan.random (is_fit f c.args.plan.logical c.args.plan.random c.fit.result (c.if-is_err.ensures).value c.fit.ensures.answer) in
     record {
       pages_fit = (omega (arith, h.pages, c.pages.ensures), omega (arith, h.few_pages, c.pages.ensures));
       logical_fits = (h.some_L, h.few_L);
@@ -27,5 +25,6 @@ pub returns-in-Ok : goal.returns-in-Ok
 returns-in-Ok g c =
     let f = g.D.Device.flash c.args.device in
     let s = c.in-Ok.ensures in
-    let e = formats_well f c.args.logical c.args.random c.args.first c.in_default.ensures.answer (g.D.Device.flash c.erase_all.new.device) c.in-Ok.tables c.blocks-2.result c.blocks-2.ensures (ap pages_of s.1 ∙ c.pages.ensures) (ap logical_of s.1) (ap random_of s.1) s.0 c.erase_all.ensures in
+    let fit = is_fit f c.args.plan.logical c.args.plan.random c.fit.result (c.if-is_err.ensures).value c.fit.ensures.answer in
+    let e = formats_well f c.args.plan.logical c.args.plan.random c.args.plan.first_stamp (sym fit) (g.D.Device.flash c.erase_all.new.device) c.in-Ok.tables c.blocks-2.result c.blocks-2.ensures (ap pages_of s.1 ∙ c.pages.ensures) (ap logical_of s.1) (ap random_of s.1) s.0 c.erase_all.ensures in
     record { after = e; law = begun _ _ e; untouched = tt }

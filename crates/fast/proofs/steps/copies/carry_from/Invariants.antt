@@ -9,4 +9,4 @@ abbrev pub invariant-loop-o : goal.invariant-loop-o
 invariant-loop-o g l =
     let flash = g.D.Device.flash in
     (l.copies + l.first ≤ l.o)
-    × Copied (each (transfer l.tables.sizes.pages (fresh_view l.fresh l.bytes) l.c.0 l.to.0) l.first (l.o - l.first) (at (flash l.initial.device) (view_of l.tables))) (flash l.device) l.copies
+    × Copied (each (transfer l.tables.sizes.pages (fresh_view l.fresh) l.c.0 l.to.0) l.first (l.o - l.first) (at (flash l.initial.device) (view_of l.tables))) (flash l.device) l.copies

@@ -1,4 +1,4 @@
-use Rattle.std.proofs.Common.{vec_items, ap, ◌∙◌, arith}
+use Rattle.std.proofs.Common.{deque_items, ap, ◌∙◌, arith}
 use Rattle.flash.specs.Calls.{erased}
 use Rattle.fast.specs.Leaves.{fresh_view}
 use Rattle.fast.specs.Meaning.{view_of}
@@ -10,11 +10,13 @@ returns g c =
     let t = c.args.tables in
     let flash = g.D.Device.flash in
     record {
-      work =
-          merged_front t.sizes.pages (fresh_view c.args.fresh c.args.bytes.now) c.args.c.0 (vec_items t.free.blocks) c.in-Some.to c.in-Some.ensures
-          c.carry_from-copies.result (flash c.args.device.now) (flash c.carry_from-copies.new.device) (flash c.erase.new.self) (view_of t) (view_of c.renew-tables.result.0) ((view_of t).data_block c.args.c.0)
-          c.carry_from-copies.ensures.work c.renew-tables.ensures.tables (c.erase.ensures.after ∙ ap (erased (flash c.carry_from-copies.new.device)) c.renew-tables.ensures.old);
+      work = record {
+        does =
+            merged_front t.sizes.pages (fresh_view c.args.fresh) c.args.c.0 (deque_items t.free.blocks) c.in-Some.to c.in-Some.ensures
+            c.carry_from-copies.result (flash c.args.device.now) (flash c.carry_from-copies.new.device) (flash c.erase.new.self) (view_of t) (view_of c.renew-tables.result.0) ((view_of t).data_block c.args.c.0)
+            c.carry_from-copies.ensures.work c.renew-tables.ensures.tables (c.erase.ensures.after ∙ ap (erased (flash c.carry_from-copies.new.device)) c.renew-tables.ensures.old);
+        sized = c.renew-tables.ensures.sized;
+      };
       few = (omega arith, c.carry_from-copies.ensures.few);
-      sized = c.renew-tables.ensures.sized;
       logged = c.renew-tables.ensures.logged;
     }

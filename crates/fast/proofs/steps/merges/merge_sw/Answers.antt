@@ -12,11 +12,13 @@ returns g c =
     let k = c.args.sw in
     let flash = g.D.Device.flash in
     record {
-      work =
-          merged_one t.sizes.pages (fresh_view c.args.fresh c.args.bytes.now) k.owner.0 k.block.0 finished k.fill c.carry_from-copies.result (flash c.args.device.now) (flash c.carry_from-copies.new.device) (flash c.erase.new.self) (view_of t) (view_of c.adopt-tables.result.0) (view_of t).free ((view_of t).data_block k.owner.0)
-          c.carry_from-copies.ensures.work c.adopt-tables.ensures.tables (c.erase.ensures.after ∙ ap (erased (flash c.carry_from-copies.new.device)) c.adopt-tables.ensures.old);
+      work = record {
+        does =
+            merged_one t.sizes.pages (fresh_view c.args.fresh) k.owner.0 k.block.0 finished k.fill c.carry_from-copies.result (flash c.args.device.now) (flash c.carry_from-copies.new.device) (flash c.erase.new.self) (view_of t) (view_of c.adopt-tables.result.0) (view_of t).free ((view_of t).data_block k.owner.0)
+            c.carry_from-copies.ensures.work c.adopt-tables.ensures.tables (c.erase.ensures.after ∙ ap (erased (flash c.carry_from-copies.new.device)) c.adopt-tables.ensures.old);
+        sized = c.adopt-tables.ensures.sized;
+      };
       few = (omega arith, c.carry_from-copies.ensures.few);
       none = c.adopt-tables.ensures.none;
-      sized = c.adopt-tables.ensures.sized;
       logged = c.adopt-tables.ensures.logged;
     }

@@ -11,9 +11,8 @@ returns-in-Some g c =
     let d = c.merge_sw.ensures in
     let has = c.in-Some.ensures.has in
     record {
-      work = settles_owned t.sizes.pages (fresh_view c.args.fresh c.args.bytes.now) c.args.c.0 (at (flash c.args.device.now) (view_of t)) t.sw c.in-Some.sw (flash c.merge_sw.new.device) (view_of c.merge_sw.result.tables) _ _ refl has.0 has.1 d.work;
+      work = record { does = settles_owned t.sizes.pages (fresh_view c.args.fresh) c.args.c.0 (at (flash c.args.device.now) (view_of t)) t.sw c.in-Some.sw (flash c.merge_sw.new.device) (view_of c.merge_sw.result.tables) _ _ refl has.0 has.1 d.work.does; sized = d.work.sized };
       few = d.few;
-      sized = d.sized;
       logged = d.logged;
     }
 
@@ -23,8 +22,7 @@ returns-in-None g c =
     let flash = g.D.Device.flash in
     let d = c.merge_free.ensures in
     record {
-      work = settles_free t.sizes.pages (fresh_view c.args.fresh c.args.bytes.now) c.args.c.0 (at (flash c.args.device.now) (view_of t)) (flash c.merge_free.new.device) (view_of c.merge_free.result.tables) _ _ (sym c.in-None.ensures.view) d.work;
+      work = record { does = settles_free t.sizes.pages (fresh_view c.args.fresh) c.args.c.0 (at (flash c.args.device.now) (view_of t)) (flash c.merge_free.new.device) (view_of c.merge_free.result.tables) _ _ (sym c.in-None.ensures.view) d.work.does; sized = d.work.sized };
       few = d.few;
-      sized = d.sized;
       logged = d.logged;
     }

@@ -8,6 +8,5 @@ returns g c =
     let t = c.args.tables in
     let flash = g.D.Device.flash in
     record {
-      work = appends t.sizes.pages c.args.mark.sector.0 c.args.sw.fill _ (sequential_of c.args.sw) (flash c.args.device.now) (flash c.program.new.self) (view_of t) (view_of c.extend.result) c.program.ensures.after c.extend.ensures.tables;
-      sized = c.extend.ensures.sized;
+      work = record { writes = appends t.sizes.pages c.args.page.mark.sector.0 c.args.sw.fill _ (sequential_of c.args.sw) (flash c.args.device.now) (flash c.program.new.self) (view_of t) (view_of c.extend.result) c.program.ensures.after c.extend.ensures.tables; sized = c.extend.ensures.sized };
     }

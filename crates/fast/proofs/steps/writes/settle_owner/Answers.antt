@@ -10,8 +10,7 @@ returns g c =
     let flash = g.D.Device.flash in
     let d = c.merge_sw.ensures in
     record {
-      work = settles_owner t.sizes.pages (at (flash c.args.device.now) (view_of t)) t.sw c.in-Some.sw (flash c.merge_sw.new.device) (view_of c.merge_sw.result.tables) _ _ refl c.in-Some.is d.work;
+      work = record { does = settles_owner t.sizes.pages (at (flash c.args.device.now) (view_of t)) t.sw c.in-Some.sw (flash c.merge_sw.new.device) (view_of c.merge_sw.result.tables) _ _ refl c.in-Some.is d.work.does; sized = d.work.sized };
       few = d.few;
-      sized = d.sized;
       none = d.none;
     }

@@ -1,4 +1,4 @@
-use Rattle.std.proofs.Common.{◌*◌, ◌<◌, ◌≤◌, length, vec_items, vec_len, refl, ap, arith}
+use Rattle.std.proofs.Common.{◌*◌, ◌<◌, ◌≤◌, length, deque_items, deque_len, refl, ap, arith}
 use Rattle.fast.specs.Leaves.{at}
 use Rattle.fast.specs.Meaning.{view_of}
 use Rattle.fast.specs.Views.{numbers}
@@ -9,14 +9,13 @@ use Rattle.fast.proofs.steps.writes.thin.Goals as goal
 pub returns-then-len-tables : goal.returns-then-len-tables
 returns-then-len-tables g c =
     let t = c.args.tables in
-    let h : length (numbers (vec_items t.rw.blocks)) < t.sizes.random = omega (arith, length_numbers (vec_items t.rw.blocks), t.rw.blocks.ok.0, c.len.ensures, c.if-len-tables.true) in
-    record {
-      work = thin_already t.sizes.pages t.sizes.random (g.D.Device.flash c.args.device.now) (view_of t) h;
+    let h : length (numbers (deque_items t.rw.blocks)) < t.sizes.random = omega (arith, length_numbers (deque_items t.rw.blocks), t.rw.blocks.ok.0, c.len.ensures, c.if-len-tables.true) in
+    rw c.new.ensures (record {
+      work = record { does = thin_already t.sizes.pages t.sizes.random (g.D.Device.flash c.args.device.now) (view_of t) h; sized = (refl, refl) };
       few = (omega arith, omega arith);
-      sized = (refl, refl);
       fewer = omega (arith, c.len.ensures, c.if-len-tables.true);
       full = c.requires.full;
-    }
+    })
 
 pub returns : goal.returns
 returns g c =
@@ -24,13 +23,12 @@ returns g c =
     let u = c.reclaim.result.tables in
     let flash = g.D.Device.flash in
     let d = c.reclaim.ensures in
-    let h : t.sizes.random ≤ length (numbers (vec_items t.rw.blocks)) = omega (arith, length_numbers (vec_items t.rw.blocks), t.rw.blocks.ok.0, c.len.ensures, c.if-len-tables.false) in
-    let a = ap (λ p. p * vec_len u.rw.blocks) (ap pages_of d.sized.0) in
+    let h : t.sizes.random ≤ length (numbers (deque_items t.rw.blocks)) = omega (arith, length_numbers (deque_items t.rw.blocks), t.rw.blocks.ok.0, c.len.ensures, c.if-len-tables.false) in
+    let a = ap (λ p. p * deque_len u.rw.blocks) (ap pages_of d.work.sized.0) in
     let b = ap (λ n. t.sizes.pages * n) d.logs in
     record {
-      work = thin_now t.sizes.pages t.sizes.random (at (flash c.args.device.now) (view_of t)) (flash c.reclaim.new.device) (view_of u) _ _ h d.work;
+      work = record { does = thin_now t.sizes.pages t.sizes.random (at (flash c.args.device.now) (view_of t)) (flash c.reclaim.new.device) (view_of u) _ _ h d.work.does; sized = d.work.sized };
       few = d.few;
-      sized = d.sized;
-      fewer = omega (arith, d.logs, ap random_of d.sized.0, t.few_logs);
+      fewer = omega (arith, d.logs, ap random_of d.work.sized.0, t.few_logs);
       full = omega (arith, a, b, d.entries, c.requires.full);
     }

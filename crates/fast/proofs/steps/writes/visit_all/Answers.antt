@@ -15,9 +15,9 @@ loop-i-preserved g c =
     let d = c.visit-step.ensures in
     let inv = c.loop-i.invariant in
     let next : Left (visit c.args.tables.sizes.pages c.loop-i.i (at (flash c.loop-i.device) (view_of c.loop-i.tables))) (flash c.visit-step.new.device) (view_of c.visit-step.result.tables) c.visit-step.result.erases c.visit-step.result.copies =
-    subst (λ p. Left (visit p c.loop-i.i (at (flash c.loop-i.device) (view_of c.loop-i.tables))) (flash c.visit-step.new.device) (view_of c.visit-step.result.tables) c.visit-step.result.erases c.visit-step.result.copies) (ap pages_of inv.1.0) d.work in (
+    subst (λ p. Left (visit p c.loop-i.i (at (flash c.loop-i.device) (view_of c.loop-i.tables))) (flash c.visit-step.new.device) (view_of c.visit-step.result.tables) c.visit-step.result.erases c.visit-step.result.copies) (ap pages_of inv.1.0) d.work.does in (
       each_more (visit c.args.tables.sizes.pages) c.loop-i.i (at (flash c.args.device.now) (view_of c.args.tables)) (flash c.loop-i.device) (flash c.visit-step.new.device) (view_of c.loop-i.tables) (view_of c.visit-step.result.tables) _ _ _ _ inv.0 next,
-      (d.sized.0 ∙ inv.1.0, d.sized.1 ∙ inv.1.1),
+      (d.work.sized.0 ∙ inv.1.0, d.work.sized.1 ∙ inv.1.1),
       (d.logged.0 ∙ inv.2.0, d.logged.1 ∙ inv.2.1),
       omega (arith, inv.3, d.few.0),
       omega (arith, inv.4, d.few.1, ap pages_of inv.1.0),

@@ -1,4 +1,4 @@
-use Rattle.std.proofs.Common.{eqb, Some, vec_items, vec_len, ap, arith, rules}
+use Rattle.std.proofs.Common.{eqb, Some, deque_items, deque_len, ap, arith, rules}
 use Rattle.flash.specs.declared.numbers.Block.{Block}
 use Rattle.fast.specs.Meaning.{view_of}
 use Rattle.fast.specs.Rules.{live_entries, busy, owner_of, same, uses, uses_sw}
@@ -12,11 +12,11 @@ invariant_of-result c =
     let t = c.args.self in
     let k = c.args.sw in
     let stale = c.expire_sector.ensures.entries in
-    let logs = ap vec_items c.expire_sector.ensures.blocks in
-    let same_logs = ap vec_len c.expire_sector.ensures.blocks in
+    let logs = ap deque_items c.expire_sector.ensures.blocks in
+    let same_logs = ap deque_len c.expire_sector.ensures.blocks in
     record {
       one_role = (λ b. omega (arith, t.one_role b, ap (uses b) logs, ap (uses_sw b) c.requires.has, ap (λ (x : Block). same b x.0) c.extend.ensures.block));
-      one_live = (λ n. omega (arith, ap (live_entries n) stale, live_stale (λ m. eqb m c.args.taken.0) n (entries_view (vec_items t.rw.entries)), t.one_live n));
+      one_live = (λ n. omega (arith, ap (live_entries n) stale, live_stale (λ m. eqb m c.args.taken.0) n (entries_view (deque_items t.rw.entries)), t.one_live n));
       owned = omega (arith, t.owned, ap owner_of c.requires.has, ap (λ (x : LogicalBlock). x.0) c.extend.ensures.owner);
       filled = (omega (arith, c.extend.ensures.fill), omega (arith, c.extend.ensures.fill, c.requires.short));
       mapped = t.mapped;
@@ -32,7 +32,7 @@ invariant_of-result c =
 pub returns : goal.returns
 returns c =
     let t = c.args.self in
-    let logs = ap (λ v. numbers (vec_items v)) c.expire_sector.ensures.blocks in
+    let logs = ap (λ v. numbers (deque_items v)) c.expire_sector.ensures.blocks in
     let stale = c.expire_sector.ensures.entries in
     let o = ap (λ (x : LogicalBlock). x.0) c.extend.ensures.owner in
     let b = ap (λ (x : Block). x.0) c.extend.ensures.block in

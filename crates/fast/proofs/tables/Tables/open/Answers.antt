@@ -1,4 +1,4 @@
-use Rattle.std.proofs.Common.{[], ◌∷◌, get_or, Some, vec_items, sym, subst, arith, rules}
+use Rattle.std.proofs.Common.{[], ◌∷◌, get_or, Some, vec_items, deque_items, sym, subst, arith, rules}
 use Rattle.scheme.specs.Roles.{Led, taken_as_sequential}
 use Rattle.scheme.specs.Steps.{turn}
 use Rattle.fast.specs.Rules.{OneRole}
@@ -12,10 +12,10 @@ returns c =
     let t = c.args.self in
     let k : Sw = record { owner = c.args.owner; block = c.take-block.result; fill = 1 } in
     let map = vec_items t.map in
-    let logs = vec_items t.rw.blocks in
-    let es = vec_items t.rw.entries in
-    let free = vec_items t.free.blocks in
-    let new = vec_items c.take-block.new.self.blocks in
+    let logs = deque_items t.rw.blocks in
+    let es = deque_items t.rw.entries in
+    let free = deque_items t.free.blocks in
+    let new = deque_items c.take-block.new.self.blocks in
     let B = t.sizes.blocks in
     record {
       tables = search rules;

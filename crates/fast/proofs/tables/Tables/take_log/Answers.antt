@@ -1,4 +1,4 @@
-use Rattle.std.proofs.Common.{◌*◌, ◌<◌, length, vec_items, vec_len, ap, ◌∙◌, arith, rules}
+use Rattle.std.proofs.Common.{◌*◌, ◌<◌, length, vec_items, deque_items, deque_len, ap, ◌∙◌, arith, rules}
 use Rattle.fast.specs.Meaning.{view_of}
 use Rattle.fast.specs.Rules.{live_entries}
 use Rattle.fast.specs.Views.{numbers, entries_view}
@@ -8,12 +8,12 @@ use Rattle.fast.proofs.tables.Tables.take_log.Goals as goal
 pub invariant_of-result : goal.invariant_of-result
 invariant_of-result c =
     let t = c.args.self in
-    let some : 0 < length (vec_items t.free.blocks) = omega (arith, t.free.blocks.ok.0, c.requires.some) in
-    let same_entries = ap vec_len c.add.ensures.entries in
+    let some : 0 < length (deque_items t.free.blocks) = omega (arith, t.free.blocks.ok.0, c.requires.some) in
+    let same_entries = ap deque_len c.add.ensures.entries in
     let more = ap (λ n. t.sizes.pages * n) c.add.ensures.len in
     record {
-      one_role = (λ b. omega (arith, t.one_role b, moved b (vec_items t.free.blocks) (vec_items t.rw.blocks) _ _ c.take-block.result some c.take-block.ensures.block c.take-block.ensures.items c.add.ensures.blocks));
-      one_live = (λ n. omega (arith, ap (λ v. live_entries n (entries_view (vec_items v))) c.add.ensures.entries, t.one_live n));
+      one_role = (λ b. omega (arith, t.one_role b, moved b (deque_items t.free.blocks) (deque_items t.rw.blocks) _ _ c.take-block.result some c.take-block.ensures.block c.take-block.ensures.items c.add.ensures.blocks));
+      one_live = (λ n. omega (arith, ap (λ v. live_entries n (entries_view (deque_items v))) c.add.ensures.entries, t.one_live n));
       owned = t.owned;
       filled = t.filled;
       mapped = t.mapped;
@@ -29,15 +29,15 @@ invariant_of-result c =
 pub returns : goal.returns
 returns c =
     let t = c.args.self in
-    let l = numbers_moved (vec_items t.rw.blocks) _ c.take-block.result _ c.take-block.ensures.block c.add.ensures.blocks in
-    let e = ap (λ v. entries_view (vec_items v)) c.add.ensures.entries in
-    let f = ap numbers c.take-block.ensures.items ∙ numbers_rest (vec_items t.free.blocks) in
+    let l = numbers_moved (deque_items t.rw.blocks) _ c.take-block.result _ c.take-block.ensures.block c.add.ensures.blocks in
+    let e = ap (λ v. entries_view (deque_items v)) c.add.ensures.entries in
+    let f = ap numbers c.take-block.ensures.items ∙ numbers_rest (deque_items t.free.blocks) in
     let more = ap (λ n. t.sizes.pages * n) c.add.ensures.len in
     record {
       tables = λ j. record { data_block = (view_of t).data_block; sequential = (view_of t).sequential; logs = l j; entries = e j; free = f j; next = t.next };
       roles =
-          logged_led t.sizes.blocks (vec_items t.map) (vec_items t.rw.entries) (vec_items c.add.new.self.entries) t.next t.next t.sw (vec_items t.rw.blocks) _ (vec_items t.free.blocks) _ c.take-block.result t.one_role
+          logged_led t.sizes.blocks (vec_items t.map) (deque_items t.rw.entries) (deque_items c.add.new.self.entries) t.next t.next t.sw (deque_items t.rw.blocks) _ (deque_items t.free.blocks) _ c.take-block.result t.one_role
           (omega (arith, t.free.blocks.ok.0, c.requires.some)) c.take-block.ensures.block c.take-block.ensures.items c.add.ensures.blocks;
       sized = search rules;
-      room = omega (arith, more, ap vec_len c.add.ensures.entries, t.sizes.pages_fit, t.entries_fit);
+      room = omega (arith, more, ap deque_len c.add.ensures.entries, t.sizes.pages_fit, t.entries_fit);
     }

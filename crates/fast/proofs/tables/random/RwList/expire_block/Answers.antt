@@ -1,4 +1,4 @@
-use Rattle.std.proofs.Common.{vec_items, ap, ◌∙◌}
+use Rattle.std.proofs.Common.{deque_items, ap, ◌∙◌}
 use Rattle.scheme.specs.Tables.{stale_all}
 use Rattle.fast.specs.Views.{entries_view}
 use Rattle.fast.proofs.Entries.{run_block}
@@ -9,7 +9,7 @@ returns c =
     let d = c.expire.ensures in
     record {
       blocks = d.blocks;
-      entries = d.entries ∙ ap (λ q. stale_all q (entries_view (vec_items c.args.self.now.entries))) (run_block c.args.c.0 c.args.pages c.requires.some);
+      entries = d.entries ∙ ap (λ q. stale_all q (entries_view (deque_items c.args.self.now.entries))) (run_block c.args.c.0 c.args.pages c.requires.some);
       len = d.len;
       room = d.room;
     }
