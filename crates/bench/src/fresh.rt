@@ -37,10 +37,8 @@ pub fn respond_fresh<D: Device + Drop>(
     ensures prints { IfOk result (λ out. length input.now ≤ 65536 → (u : Table) × Prints (layer_table (format (started (D.Device.flash device) 4 2 1))) 1 (lines input.now) out.items u) }
     ensures refuses { IfOk result (λ out. 65536 < length input.now → out.items ≡ codes "too long" ++ (10 ∷ [])) }
 {
-    match Layer::format(heap, device, LOGICAL, RANDOM, FIRST_STAMP) {
-        Err((_, error)) => Err(error),
-        Ok(mut layer) => respond(heap, &mut layer, input),
-    }
+    let mut layer = Layer::format(heap, device, LOGICAL, RANDOM, FIRST_STAMP).map_err(|(_, e)| e)?;
+    respond(heap, &mut layer, input)
 }
 
 // The same on the module of two blank chips, of 8 blocks in all, 4 pages a block, life 100.

@@ -17,7 +17,7 @@ use flash::device::SECTOR_SIZE;
 use flash::numbers::Sector;
 
 // A sector with the byte before it.
-const SLOT_SIZE: usize = SECTOR_SIZE + 1;
+pub const SLOT_SIZE: usize = SECTOR_SIZE + 1;
 
 #[derive(Drop)]
 pub struct PlainStore<'a> {

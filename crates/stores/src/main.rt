@@ -5,7 +5,7 @@
 
 #![tactic(auto)]
 
-use anyhow::anyhow;
+use anyhow::{anyhow, bail};
 use chips::blank::blank_image;
 use console::respond::{MOST_BYTES, respond};
 use fast::layer::Layer;
@@ -13,11 +13,9 @@ use flash::chip::ImageChip;
 use image::shape::Geometry;
 use input::read_input;
 use std::io::Write;
-use store::plain::PlainStore;
+use store::plain::{PlainStore, SLOT_SIZE};
 use store::spread::Spread;
 use store::store::Store;
-
-const PLAIN_SECTOR: usize = 513;
 
 const GEOMETRY: Geometry = Geometry {
     blocks: 8,
@@ -38,18 +36,18 @@ fn print_run<S: Store>(
 }
 
 fn run_plain(rt: &HostRuntime, input: &[u8]) -> anyhow::Result<()> {
-    let mut bytes = vec![in rt.alloc(); 0u8; 16 * PLAIN_SECTOR]?;
+    let mut bytes = vec![in rt.alloc(); 0u8; 16 * SLOT_SIZE]?;
     print_run(rt, "plain", &mut PlainStore::new(&mut bytes), input)
 }
 
 fn run_spread(rt: &HostRuntime, input: &[u8]) -> anyhow::Result<()> {
-    let Ok(mut image) = blank_image(rt.alloc(), GEOMETRY) else {
-        return Err(anyhow!("no memory for the chip"));
-    };
+    let mut image = blank_image(rt.alloc(), GEOMETRY).map_err(|_| anyhow!(
+        "no memory for the chip"
+    ))?;
     let Ok(layer) = Layer::format(rt.alloc(), ImageChip::new(&mut image), 4, 2, 1) else {
-        return Err(anyhow!("no memory for the tables"));
+        bail!("no memory for the tables");
     };
-    let mut bytes = vec![in rt.alloc(); 0u8; 8 * PLAIN_SECTOR]?;
+    let mut bytes = vec![in rt.alloc(); 0u8; 8 * SLOT_SIZE]?;
     let mut spread = Spread {
         left: PlainStore::new(&mut bytes),
         right: layer,
@@ -57,12 +55,8 @@ fn run_spread(rt: &HostRuntime, input: &[u8]) -> anyhow::Result<()> {
     print_run(rt, "spread", &mut spread, input)
 }
 
-fn run(rt: &HostRuntime) -> anyhow::Result<()> {
-    let input = read_input(rt.alloc(), rt.stdin(), MOST_BYTES)?;
-    run_plain(rt, &input)?;
-    run_spread(rt, &input)
-}
-
 fn main(rt: HostRuntime) -> anyhow::Result<()> {
-    run(&rt)
+    let input = read_input(rt.alloc(), rt.stdin(), MOST_BYTES)?;
+    run_plain(&rt, &input)?;
+    run_spread(&rt, &input)
 }
