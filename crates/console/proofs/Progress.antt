@@ -5,10 +5,9 @@ use Rattle.std.proofs.lemmas.List.{length_push}
 use Rattle.std.proofs.lemmas.Bool.Decides.{nat_tests}
 use Rattle.std.specs.List.{prefix_len}
 use Rattle.std.specs.Option.{MatchOption}
-use Rattle.store.specs.Meaning.{Table}
-use Rattle.console.specs.Commands.{other_than, said}
+use Rattle.console.specs.Commands.{Said, other_than, said}
 use Rattle.console.specs.Lines.{lines_from, lines}
-use Rattle.console.specs.Running.{Adds, Prints}
+use Rattle.console.specs.Running.{Adds, ByLine}
 
 -- the first line of what is left of an input, of which `front` was seen: up to byte 10, or all
 line_ends : (front bs : List ℕ) (k : ℕ) → k ≡ prefix_len (other_than 10) bs → k < length bs → lines_from front bs ≡ (front ++ take k bs) ∷ lines (drop (k + 1) bs)
@@ -54,24 +53,25 @@ pub few : (bs : List ℕ) → length (lines bs) ≤ length bs
 few bs = let h = few_lines [] bs in omega arith
 
 -- whatever the lines that are left print, all lines print that after `out`
-pub record Onward (t₀ : Table) (all : List (List ℕ)) (t : Table) (k : ℕ) (left : List (List ℕ)) (out : List ℕ) : Type 0 where
-  pub whole : (rest : List ℕ) (u : Table) → Prints t k left rest u → Prints t₀ 1 all (out ++ rest) u
+pub record Onward {S : Type 0} (does : S → ℕ → Option Said → List ℕ → S → Type 0) (x₀ : S) (all : List (List ℕ)) (x : S) (k : ℕ) (left : List (List ℕ)) (out : List ℕ) : Type 0 where
+  pub whole : (rest : List ℕ) (y : S) → ByLine does x k left rest y → ByLine does x₀ 1 all (out ++ rest) y
 
-pub onward_first : (t : Table) (all left : List (List ℕ)) (out : List ℕ) → left ≡ all → out ≡ [] → Onward t all t 1 left out
-onward_first t all left out e f = rw (e, f) (record { whole = λ rest u h. h })
+module _ {S : Type 0} (does : S → ℕ → Option Said → List ℕ → S → Type 0) (x₀ : S) (all : List (List ℕ)) where
+  pub onward_first : (left : List (List ℕ)) (out : List ℕ) → left ≡ all → out ≡ [] → Onward does x₀ all x₀ 1 left out
+  onward_first left out e f = rw (e, f) (record { whole = λ rest y h. h })
 
-module _ (t₀ : Table) (all : List (List ℕ)) (t : Table) (k : ℕ) where
-  pub onward_line : (left : List (List ℕ)) (l : List ℕ) (ls : List (List ℕ)) (before after : List ℕ) (u : Table) (m : ℕ) → left ≡ l ∷ ls → m ≡ k →
-      Onward t₀ all t k left before → Adds t k (said l) before after u → Onward t₀ all u (m + 1) ls after
-  onward_line left l ls before after u m e f h a = rw f (record {
-    whole = λ rest v p.
-        let same : before ++ (a.0 ++ rest) ≡ after ++ rest = sym (ap (λ xs. xs ++ rest) a.2 ∙ append_assoc before a.0 rest) in
-        let next : Prints u (suc k) ls rest v = rw add-one at p in
-        let first : Prints t k left (a.0 ++ rest) v = rw e (u, a.0, rest, a.1, next, refl) in
-        subst (λ xs. Prints t₀ 1 all xs v) same (h.whole (a.0 ++ rest) v first);
-  })
+  pub onward_line : (x : S) (k : ℕ) (left : List (List ℕ)) (l : List ℕ) (ls : List (List ℕ)) (before after : List ℕ) (y : S) (m : ℕ) → left ≡ l ∷ ls → m ≡ k →
+      Onward does x₀ all x k left before → Adds does x k (said l) before after y → Onward does x₀ all y (m + 1) ls after
+  onward_line x k left l ls before after y m e f h a =
+      rw f (record {
+        whole = λ rest z p.
+            let same : before ++ (a.0 ++ rest) ≡ after ++ rest = sym (ap (λ xs. xs ++ rest) a.2 ∙ append_assoc before a.0 rest) in
+            let next : ByLine does y (suc k) ls rest z = rw add-one at p in
+            let first : ByLine does x k left (a.0 ++ rest) z = rw e (y, a.0, rest, a.1, next, refl) in
+            subst (λ xs. ByLine does x₀ 1 all xs z) same (h.whole (a.0 ++ rest) z first);
+      })
 
-  pub onward_last : (left : List (List ℕ)) (out : List ℕ) → left ≡ [] → Onward t₀ all t k left out → Prints t₀ 1 all out t
-  onward_last left out e h =
-      let none : Prints t k left [] t = rw e (refl, refl) in
-      subst (λ xs. Prints t₀ 1 all xs t) (append-nil out) (h.whole [] t none)
+  pub onward_last : (x : S) (k : ℕ) (left : List (List ℕ)) (out : List ℕ) → left ≡ [] → Onward does x₀ all x k left out → ByLine does x₀ 1 all out x
+  onward_last x k left out e h =
+      let none : ByLine does x k left [] x = rw e (refl, refl) in
+      subst (λ xs. ByLine does x₀ 1 all xs x) (append-nil out) (h.whole [] x none)

@@ -6,7 +6,7 @@
 ghost use Rattle.std.specs.Prelude.{◌≡◌, ◌≤◌, ◌++◌, length, IfOk, IfSome, Some, OnOk};
 ghost use Rattle.console.specs.Commands.{says_read, says_write, said};
 ghost use Rattle.console.specs.Lines.{lines, padded, before_zero, bytes_line, refused_line, reply_line};
-ghost use Rattle.console.specs.Running.{Adds, Prints};
+ghost use Rattle.console.specs.Running.{Does, Asks, ByLine, Adds, Prints};
 ghost use Rattle.fast.specs.Told.{read_told, write_told};
 
 use crate::command::Command;
@@ -123,7 +123,8 @@ fn run_write<S: Store>(
     out: &mut Output,
 ) -> Result<(), AllocError>
     requires { length text.now ≤ 512 }
-    ensures adds { OnOk result (S.Store.valid store.old → Adds (S.Store.table store.old) out.old.line (Some (says_write sector.0 text.now)) out.old.bytes.items out.new.bytes.items (S.Store.table store.new)) }
+    ensures adds { OnOk result (S.Store.valid store.old → Adds Does (S.Store.table store.old) out.old.line (Some (says_write sector.0 text.now)) out.old.bytes.items out.new.bytes.items (S.Store.table store.new)) }
+    ensures made { OnOk result (Adds (Asks S.Store.makes) store.old out.old.line (Some (says_write sector.0 text.now)) out.old.bytes.items out.new.bytes.items store.new) }
     ensures stays { S.Store.valid store.old → S.Store.valid store.new }
     ensures line { out.new.line ≡ out.old.line }
 {
@@ -135,7 +136,8 @@ fn run_write<S: Store>(
 
 // Reads a sector.
 fn run_read<S: Store>(store: &S, sector: Sector, out: &mut Output) -> Result<(), AllocError>
-    ensures adds { OnOk result (Adds (S.Store.table store.now) out.old.line (Some (says_read sector.0)) out.old.bytes.items out.new.bytes.items (S.Store.table store.now)) }
+    ensures adds { OnOk result (Adds Does (S.Store.table store.now) out.old.line (Some (says_read sector.0)) out.old.bytes.items out.new.bytes.items (S.Store.table store.now)) }
+    ensures made { OnOk result (Adds (Asks S.Store.makes) store.now out.old.line (Some (says_read sector.0)) out.old.bytes.items out.new.bytes.items store.now) }
     ensures line { out.new.line ≡ out.old.line }
 {
     let mut buffer = [0u8; SECTOR_SIZE];
@@ -145,7 +147,8 @@ fn run_read<S: Store>(store: &S, sector: Sector, out: &mut Output) -> Result<(),
 
 // Carries out one line.
 fn run_line<S: Store>(store: &mut S, text: &[u8], out: &mut Output) -> Result<(), AllocError>
-    ensures adds { OnOk result (S.Store.valid store.old → Adds (S.Store.table store.old) out.old.line (said text.now) out.old.bytes.items out.new.bytes.items (S.Store.table store.new)) }
+    ensures adds { OnOk result (S.Store.valid store.old → Adds Does (S.Store.table store.old) out.old.line (said text.now) out.old.bytes.items out.new.bytes.items (S.Store.table store.new)) }
+    ensures made { OnOk result (Adds (Asks S.Store.makes) store.old out.old.line (said text.now) out.old.bytes.items out.new.bytes.items store.new) }
     ensures stays { S.Store.valid store.old → S.Store.valid store.new }
     ensures line { out.new.line ≡ out.old.line }
 {
@@ -159,6 +162,7 @@ fn run_line<S: Store>(store: &mut S, text: &[u8], out: &mut Output) -> Result<()
 // What the lines of an input print, one after the other. A line ends at byte 10 or at the end of the input; an empty end is no line.
 pub fn run<S: Store>(heap: Global, store: &mut S, input: &[u8]) -> Result<Vec<u8>, AllocError>
     ensures prints { IfOk result (λ out. S.Store.valid store.old → Prints (S.Store.table store.old) 1 (lines input.now) out.items (S.Store.table store.new)) }
+    ensures made { IfOk result (λ out. ByLine (Asks S.Store.makes) store.old 1 (lines input.now) out.items store.new) }
     ensures stays { S.Store.valid store.old → S.Store.valid store.new }
 {
     let mut out = Output {

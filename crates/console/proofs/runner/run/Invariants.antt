@@ -1,5 +1,6 @@
 use Rattle.std.proofs.Common.{◌≡◌, ◌+◌, length, vec_items}
 use Rattle.console.specs.Lines.{lines}
+use Rattle.console.specs.Running.{Does, Asks}
 use Rattle.console.proofs.Progress.{Onward}
 use Rattle.console.proofs.runner.run.Given as goal
 
@@ -10,4 +11,5 @@ invariant-loop-line g l =
     × (l.out.line + length (lines l.line-iterator.0.now) ≡ 1 + length (lines l.input))
     × (g.S.Store.valid l.initial.store → g.S.Store.valid l.store)
     × (g.S.Store.valid l.initial.store →
-    Onward (g.S.Store.table l.initial.store) (lines l.input) (g.S.Store.table l.store) l.out.line (lines l.line-iterator.0.now) (vec_items l.out.bytes))
+    Onward Does (g.S.Store.table l.initial.store) (lines l.input) (g.S.Store.table l.store) l.out.line (lines l.line-iterator.0.now) (vec_items l.out.bytes))
+    × Onward (Asks g.S.Store.makes) l.initial.store (lines l.input) l.store l.out.line (lines l.line-iterator.0.now) (vec_items l.out.bytes)
