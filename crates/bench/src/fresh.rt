@@ -10,24 +10,19 @@ ghost use Rattle.store.specs.Layered.{layer_table};
 ghost use Rattle.store.specs.Meaning.{Table};
 
 use chips::blank::{NoImage, blank_image};
-use chips::module::{LEFT_BLOCKS, RIGHT_BLOCKS, two_chips};
+use chips::module::{LEFT, RIGHT, two_chips};
 use console::respond::respond;
 use fast::fit::Plan;
 use fast::layer::Layer;
 use flash::chip::ImageChip;
 use flash::device::Device;
-use image::shape::Geometry;
 use std::alloc::{AllocError, Global};
 
-const LOGICAL: u32 = 4;
-
-const RANDOM: u32 = 2;
-
-const FIRST_STAMP: u32 = 1;
-
-const PAGES: u32 = 4;
-
-const LIFE: u32 = 100;
+const PLAN: Plan = Plan {
+    logical: 4,
+    random: 2,
+    first_stamp: 1,
+};
 
 // What the lines print on the layer that format gives, with 4 logical blocks, 2 random log blocks and first stamp 1.
 pub fn respond_fresh<D: Device + Drop>(
@@ -38,15 +33,8 @@ pub fn respond_fresh<D: Device + Drop>(
     ensures prints { IfOk result (λ out. length input.now ≤ 65536 → (u : Table) × Prints (layer_table (format (started (D.Device.flash device) 4 2 1))) 1 (lines input.now) out.items u) }
     ensures refuses { IfOk result (λ out. 65536 < length input.now → out.items ≡ codes "too long" ++ (10 ∷ [])) }
 {
-    let plan = Plan {
-        logical: LOGICAL,
-        random: RANDOM,
-        first_stamp: FIRST_STAMP,
-    };
-    match Layer::format(heap, device, plan) {
-        Err((_, error)) => Err(error),
-        Ok(mut layer) => respond(heap, &mut layer, input),
-    }
+    let mut layer = Layer::format(heap, device, PLAN).map_err(|(_, error)| error)?;
+    respond(heap, &mut layer, input)
 }
 
 // The same on the module of two blank chips, of 8 blocks in all, 4 pages a block, life 100.
@@ -54,22 +42,8 @@ pub fn respond_on_module(heap: Global, input: &[u8]) -> Result<Vec<u8>, NoImage>
     ensures prints { IfOk result (λ out. length input.now ≤ 65536 → (u : Table) × Prints (layer_table (format bench)) 1 (lines input.now) out.items u) }
     ensures refuses { IfOk result (λ out. 65536 < length input.now → out.items ≡ codes "too long" ++ (10 ∷ [])) }
 {
-    let mut left = blank_image(
-        heap,
-        Geometry {
-            blocks: LEFT_BLOCKS,
-            pages: PAGES,
-            life: LIFE,
-        },
-    )?;
-    let mut right = blank_image(
-        heap,
-        Geometry {
-            blocks: RIGHT_BLOCKS,
-            pages: PAGES,
-            life: LIFE,
-        },
-    )?;
+    let mut left = blank_image(heap, LEFT)?;
+    let mut right = blank_image(heap, RIGHT)?;
     let module = two_chips(ImageChip::new(&mut left), ImageChip::new(&mut right));
     Ok(respond_fresh(heap, module, input)?)
 }

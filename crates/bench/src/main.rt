@@ -5,7 +5,6 @@
 
 #![tactic(auto)]
 
-use anyhow::anyhow;
 use console::respond::MOST_BYTES;
 use fresh::respond_on_module;
 use input::read_input;
@@ -13,15 +12,9 @@ use std::io::Write;
 
 mod fresh;
 
-fn run(rt: &HostRuntime) -> anyhow::Result<()> {
+fn main(rt: HostRuntime) -> anyhow::Result<()> {
     let input = read_input(rt.alloc(), rt.stdin(), MOST_BYTES)?;
-    let Ok(out) = respond_on_module(rt.alloc(), &input) else {
-        return Err(anyhow!("no memory for the module and its layer"));
-    };
+    let out = respond_on_module(rt.alloc(), &input)?;
     rt.stdout().write_all(&out)?;
     Ok(())
-}
-
-fn main(rt: HostRuntime) -> anyhow::Result<()> {
-    run(&rt)
 }

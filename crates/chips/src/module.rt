@@ -20,10 +20,6 @@ pub const LEFT: Geometry = Geometry {
 
 pub const RIGHT: Geometry = Geometry { blocks: 5, ..LEFT };
 
-pub const LEFT_BLOCKS: u32 = LEFT.blocks;
-
-pub const RIGHT_BLOCKS: u32 = RIGHT.blocks;
-
 // One device and 4 blocks, from block 1 on, of another, as one.
 pub fn two_chips<First: Device, Second: Device>(
     first: First,

@@ -1,68 +1,77 @@
--- How far the runner has come: lines done, and what is left.
-use Rattle.std.proofs.Common.{◌≡◌, ℕ, suc, ◌+◌, ◌<◌, ◌≤◌, true, false, eqb, List, [], ◌∷◌, ◌++◌, length, get_or, drop, sym, refl, ap, ◌∙◌, subst, append_assoc, append-nil, add-one, arith}
-use Rattle.std.proofs.lemmas.List.Edits.{between_none, between_more, length-between}
-use Rattle.std.proofs.lemmas.List.{drop_more, drop_all}
+-- The lines of an input, one after the other, and what they print.
+use Rattle.std.proofs.Common.{◌≡◌, ℕ, suc, ◌+◌, ◌<◌, ◌≤◌, Bor, List, [], ◌∷◌, ◌++◌, length, take, drop, Some, None, Option, unwrap_or, sym, refl, ap, ap₂, ◌∙◌, subst, append_assoc, append-nil, add-one, ⊎_elim, arith, eq-eqb, ne_eqb}
+use Rattle.std.proofs.lemmas.Bool.{cases_eq}
+use Rattle.std.proofs.lemmas.List.{length_push}
 use Rattle.std.proofs.lemmas.Bool.Decides.{nat_tests}
-use Rattle.std.specs.List.{between}
-use Rattle.store.specs.Meaning.{Table}
-use Rattle.console.specs.Commands.{said}
-use Rattle.console.specs.Lines.{lines_from}
-use Rattle.console.specs.Running.{Adds, Prints}
+use Rattle.std.specs.List.{prefix_len}
+use Rattle.std.specs.Option.{MatchOption}
+use Rattle.console.specs.Commands.{Said, other_than, said}
+use Rattle.console.specs.Lines.{lines_from, lines}
+use Rattle.console.specs.Running.{Adds, ByLine}
 
--- the lines of an input from byte i on, where the line there began at byte `start`
-abbrev pub lines_at : ℕ → ℕ → List ℕ → List (List ℕ)
-lines_at start i bs = lines_from (between start i bs) (drop i bs)
+-- the first line of what is left of an input, of which `front` was seen: up to byte 10, or all
+line_ends : (front bs : List ℕ) (k : ℕ) → k ≡ prefix_len (other_than 10) bs → k < length bs → lines_from front bs ≡ (front ++ take k bs) ∷ lines (drop (k + 1) bs)
+line_ends front [] k e h = absurd (omega arith)
+line_ends front (b ∷ bs) k e h =
+    ⊎_elim
+    (λ here. let t = eq-eqb b 10 here in let none : k ≡ 0 = e ∙ rw t refl in
+    rw (none, t, append-nil) refl)
+    (λ other. let t = ne_eqb b 10 other in let more : k ≡ suc (prefix_len (other_than 10) bs) = e ∙ rw t (omega arith) in
+    let one : suc (prefix_len (other_than 10) bs + 1) ≡ suc (prefix_len (other_than 10) bs) + 1 = omega arith in
+    rw (more, t) (line_ends (front ++ (b ∷ [])) bs (prefix_len (other_than 10) bs) refl (omega arith) ∙ ap₂ (λ l m. l ∷ lines m) (append_assoc front (b ∷ []) (take (prefix_len (other_than 10) bs) bs)) (ap (λ n. drop n (b ∷ bs)) one)))
+    (cases_eq b 10)
+
+last_line : (front bs : List ℕ) → length bs ≤ prefix_len (other_than 10) bs → 0 < length front + length bs → lines_from front bs ≡ (front ++ bs) ∷ []
+last_line front [] h some = grind (arith, nat_tests, append-nil {A = ℕ})
+last_line front (b ∷ bs) h some =
+    ⊎_elim
+    (λ here. let t = eq-eqb b 10 here in let none : prefix_len (other_than 10) (b ∷ bs) ≡ 0 = rw t refl in absurd (omega arith))
+    (λ other. let t = ne_eqb b 10 other in let more : prefix_len (other_than 10) (b ∷ bs) ≡ 1 + prefix_len (other_than 10) bs = rw t refl in
+    rw t (last_line (front ++ (b ∷ [])) bs (omega arith) (omega (arith, length_push front b)) ∙ ap (λ l. l ∷ []) (append_assoc front (b ∷ []) bs)))
+    (cases_eq b 10)
+
+pub next_line : (bs : List ℕ) (r : Option (Bor (List ℕ) × Bor (List ℕ))) (d u : Bor (List ℕ) × Bor (List ℕ)) → 0 < length bs
+    → MatchOption r (length bs ≤ prefix_len (other_than 10) bs) (λ p. (prefix_len (other_than 10) bs < length bs) × (p.0.now ≡ take (prefix_len (other_than 10) bs) bs) × (p.1.now ≡ drop (prefix_len (other_than 10) bs + 1) bs))
+    → u ≡ unwrap_or r d → d.0.now ≡ bs → d.1.now ≡ [] → lines bs ≡ u.0.now ∷ lines u.1.now
+next_line bs None d u some h e f g =
+    let same : u ≡ d = e in
+    last_line [] bs h (omega arith) ∙ sym (ap₂ (λ l m. l ∷ lines m) (ap (λ (x : Bor (List ℕ) × Bor (List ℕ)). x.0.now) same ∙ f) (ap (λ (x : Bor (List ℕ) × Bor (List ℕ)). x.1.now) same ∙ g))
+next_line bs (Some p) d u some h e f g =
+    let same : u ≡ p = e in
+    line_ends [] bs _ refl h.0 ∙ sym (ap₂ (λ l m. l ∷ lines m) (ap (λ (x : Bor (List ℕ) × Bor (List ℕ)). x.0.now) same ∙ h.1) (ap (λ (x : Bor (List ℕ) × Bor (List ℕ)). x.1.now) same ∙ h.2))
+
+-- there are no more lines than bytes
+few_lines : (front bs : List ℕ) → length (lines_from front bs) ≤ length front + length bs
+few_lines front [] = grind (arith, nat_tests)
+few_lines front (b ∷ bs) =
+    let ended = few_lines [] bs in
+    let more = few_lines (front ++ (b ∷ [])) bs in
+    let one = length_push front b in
+    grind (arith, nat_tests)
+
+pub few : (bs : List ℕ) → length (lines bs) ≤ length bs
+few bs = let h = few_lines [] bs in omega arith
 
 -- whatever the lines that are left print, all lines print that after `out`
-pub record Onward (t₀ : Table) (all : List (List ℕ)) (t : Table) (k : ℕ) (left : List (List ℕ)) (out : List ℕ) : Type 0 where
-  pub whole : (rest : List ℕ) (u : Table) → Prints t k left rest u → Prints t₀ 1 all (out ++ rest) u
+pub record Onward {S : Type 0} (does : S → ℕ → Option Said → List ℕ → S → Type 0) (x₀ : S) (all : List (List ℕ)) (x : S) (k : ℕ) (left : List (List ℕ)) (out : List ℕ) : Type 0 where
+  pub whole : (rest : List ℕ) (y : S) → ByLine does x k left rest y → ByLine does x₀ 1 all (out ++ rest) y
 
-pub onward_first : (t : Table) (all : List (List ℕ)) → Onward t all t 1 all []
-onward_first t all = record { whole = λ rest u h. h }
+module _ {S : Type 0} (does : S → ℕ → Option Said → List ℕ → S → Type 0) (x₀ : S) (all : List (List ℕ)) where
+  pub onward_first : (left : List (List ℕ)) (out : List ℕ) → left ≡ all → out ≡ [] → Onward does x₀ all x₀ 1 left out
+  onward_first left out e f = rw (e, f) (record { whole = λ rest y h. h })
 
-module _ (t₀ : Table) (all : List (List ℕ)) (t : Table) (k : ℕ) where
-  pub onward_line : (left : List (List ℕ)) (l : List ℕ) (ls : List (List ℕ)) (before after : List ℕ) (u : Table) → left ≡ l ∷ ls →
-      Onward t₀ all t k left before → Adds t k (said l) before after u → Onward t₀ all u (k + 1) ls after
-  onward_line left l ls before after u e h a = record {
-    whole = λ rest v p.
-        let same : before ++ (a.0 ++ rest) ≡ after ++ rest = sym (ap (λ xs. xs ++ rest) a.2 ∙ append_assoc before a.0 rest) in
-        let next : Prints u (suc k) ls rest v = rw add-one at p in
-        let first : Prints t k left (a.0 ++ rest) v = rw e (u, a.0, rest, a.1, next, refl) in
-        subst (λ xs. Prints t₀ 1 all xs v) same (h.whole (a.0 ++ rest) v first);
-  }
+  pub onward_line : (x : S) (k : ℕ) (left : List (List ℕ)) (l : List ℕ) (ls : List (List ℕ)) (before after : List ℕ) (y : S) (m : ℕ) → left ≡ l ∷ ls → m ≡ k →
+      Onward does x₀ all x k left before → Adds does x k (said l) before after y → Onward does x₀ all y (m + 1) ls after
+  onward_line x k left l ls before after y m e f h a =
+      rw f (record {
+        whole = λ rest z p.
+            let same : before ++ (a.0 ++ rest) ≡ after ++ rest = sym (ap (λ xs. xs ++ rest) a.2 ∙ append_assoc before a.0 rest) in
+            let next : ByLine does y (suc k) ls rest z = rw add-one at p in
+            let first : ByLine does x k left (a.0 ++ rest) z = rw e (y, a.0, rest, a.1, next, refl) in
+            subst (λ xs. ByLine does x₀ 1 all xs z) same (h.whole (a.0 ++ rest) z first);
+      })
 
-  pub onward_last : (left : List (List ℕ)) (out : List ℕ) → left ≡ [] → Onward t₀ all t k left out → Prints t₀ 1 all out t
-  onward_last left out e h =
-      let none : Prints t k left [] t = rw e (refl, refl) in
-      subst (λ xs. Prints t₀ 1 all xs t) (append-nil out) (h.whole [] t none)
-
--- one byte on
-module _ (bs : List ℕ) (start i : ℕ) where
-  pub line_ends : i < length bs → get_or bs i 0 ≡ 10 → lines_at start i bs ≡ between start i bs ∷ lines_at (i + 1) (i + 1) bs
-  line_ends h e =
-      let d = drop_more bs i 0 h in
-      let none = between_none bs (i + 1) in
-      rw (d, e, none)
-
-  pub line_goes : start ≤ i → i < length bs → (get_or bs i 0 ≡ 10 → ⊥) → lines_at start i bs ≡ lines_at start (i + 1) bs
-  line_goes s h e =
-      let d = drop_more bs i 0 h in
-      let m = between_more bs start i 0 s h in
-      let other : eqb (get_or bs i 0) 10 ≡ false = grind (arith, nat_tests) in
-      rw (d, m, other)
-
-  -- at the end of the input
-  pub last_line : i ≡ length bs → start < i → lines_at start i bs ≡ between start (length bs) bs ∷ []
-  last_line e h =
-      let d = drop_all i bs (omega arith) in
-      let len = length-between bs start i (omega arith) in
-      let some : eqb (length (between start i bs)) 0 ≡ false = grind (arith, nat_tests) in
-      let last : lines_at start i bs ≡ between start i bs ∷ [] = rw (d, some) in
-      last ∙ ap (λ n. between start n bs ∷ []) e
-
-  pub no_line : i ≡ length bs → i ≤ start → lines_at start i bs ≡ []
-  no_line e h =
-      let d = drop_all i bs (omega arith) in
-      let len = length-between bs start i (omega arith) in
-      let none : eqb (length (between start i bs)) 0 ≡ true = grind (arith, nat_tests) in
-      rw (d, none)
+  pub onward_last : (x : S) (k : ℕ) (left : List (List ℕ)) (out : List ℕ) → left ≡ [] → Onward does x₀ all x k left out → ByLine does x₀ 1 all out x
+  onward_last x k left out e h =
+      let none : ByLine does x k left [] x = rw e (refl, refl) in
+      subst (λ xs. ByLine does x₀ 1 all xs x) (append-nil out) (h.whole [] x none)

@@ -7,14 +7,12 @@ ghost use Rattle.std.specs.Prelude.{◌≡◌, ◌≤◌, length};
 ghost use Rattle.console.specs.Commands.{number_of, said, said_write, Spelling};
 ghost use Rattle.console.specs.Told.{command_told};
 
-use crate::scan::before;
+use crate::scan::split_once;
+use flash::device::SECTOR_SIZE;
 use flash::numbers::Sector;
 
 // The longest numeral: as long as that of the largest number of 32 bits.
 const MOST_DIGITS: usize = 10;
-
-// The longest text: a whole sector.
-const MOST_TEXT: usize = 512;
 
 // The text is a part of the line.
 #[derive(Clone, Copy)]
@@ -27,29 +25,27 @@ pub enum Command<'a> {
 fn parse_number(digits: &[u8]) -> Option<u32>
     ensures { result ≡ number_of digits.now }
 {
-    if digits.len() < 1 || digits.len() > MOST_DIGITS {
+    if digits.is_empty() || digits.len() > MOST_DIGITS {
         return None;
     }
-    let mut value = 0u64;
+    let mut value = 0u32;
     for digit in digits {
-        if *digit < b'0' || *digit > b'9' {
+        if !digit.is_ascii_digit() {
             return None;
         }
-        value = value * 10 + (*digit - b'0') as u64;
+        value = value
+            .checked_mul(10)?
+            .checked_add(u32::from(*digit - b'0'))?;
     }
-    u32::try_from(value).ok()
+    Some(value)
 }
 
 fn parse_write<'a>(rest: &'a [u8]) -> Option<Command<'a>>
     ensures { command_told result ≡ said_write rest.now }
 {
-    let space = before(rest, b' ');
-    if space >= rest.len() {
-        return None;
-    }
-    let sector = Sector(parse_number(&rest[0..space])?);
-    let text = &rest[space + 1..];
-    if text.len() > MOST_TEXT {
+    let (digits, text) = split_once(rest, b' ')?;
+    let sector = Sector(parse_number(digits)?);
+    if text.len() > SECTOR_SIZE {
         return None;
     }
     Some(Command::Write { sector, text })
@@ -61,15 +57,12 @@ impl<'a> Command<'a> {
         ensures command { command_told result ≡ said line.now }
         ensures law { Spelling line.now (command_told result) }
     {
-        if line.len() < 2 || line[1] != b' ' {
-            return None;
-        }
-        match line[0] {
-            b'r' => {
-                let sector = Sector(parse_number(&line[2..])?);
+        match line {
+            [b'r', b' ', rest @ ..] => {
+                let sector = Sector(parse_number(rest)?);
                 Some(Command::Read { sector })
             }
-            b'w' => parse_write(&line[2..]),
+            [b'w', b' ', rest @ ..] => parse_write(rest),
             _ => None,
         }
     }

@@ -3,6 +3,7 @@
 #![tactic(auto)]
 
 pub mod command;
+mod input;
 pub mod respond;
 pub mod runner;
 mod scan;

@@ -4,7 +4,7 @@
 
 ghost use Rattle.std.specs.Prelude.{◌≡◌, ◌<◌, ◌≤◌, [], ◌∷◌, ◌++◌, length, IfOk, codes};
 ghost use Rattle.console.specs.Lines.{lines};
-ghost use Rattle.console.specs.Running.{Prints};
+ghost use Rattle.console.specs.Running.{Asks, ByLine, Prints};
 
 use crate::runner::run;
 use std::alloc::{AllocError, Global};
@@ -15,6 +15,7 @@ pub const MOST_BYTES: usize = 65_536;
 
 pub fn respond<S: Store>(heap: Global, store: &mut S, input: &[u8]) -> Result<Vec<u8>, AllocError>
     ensures prints { IfOk result (λ out. length input.now ≤ 65536 → S.Store.valid store.old → Prints (S.Store.table store.old) 1 (lines input.now) out.items (S.Store.table store.new)) }
+    ensures made { IfOk result (λ out. length input.now ≤ 65536 → ByLine (Asks S.Store.makes) store.old 1 (lines input.now) out.items store.new) }
     ensures refuses { IfOk result (λ out. 65536 < length input.now → out.items ≡ codes "too long" ++ (10 ∷ [])) }
     ensures untouched { 65536 < length input.now → store.new ≡ store.old }
     ensures stays { S.Store.valid store.old → S.Store.valid store.new }

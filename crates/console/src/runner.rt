@@ -3,19 +3,21 @@
 // The output is bytes and not text: what a read prints is whatever was written. Every line prints one line, a refused one too, so that output
 // and input can be laid side by side.
 
-ghost use Rattle.std.specs.Prelude.{◌≡◌, ◌≤◌, ◌++◌, length, IfOk, Some, OnOk};
+ghost use Rattle.std.specs.Prelude.{◌≡◌, ◌≤◌, ◌++◌, length, IfOk, IfSome, Some, OnOk};
 ghost use Rattle.console.specs.Commands.{says_read, says_write, said};
 ghost use Rattle.console.specs.Lines.{lines, padded, before_zero, bytes_line, refused_line, reply_line};
-ghost use Rattle.console.specs.Running.{Adds, Prints};
+ghost use Rattle.console.specs.Running.{Does, Asks, ByLine, Adds, Prints};
 ghost use Rattle.fast.specs.Told.{read_told, write_told};
 
 use crate::command::Command;
-use crate::scan::before;
+use crate::input::Lines;
+use crate::scan::split_once;
 use fast::layer::Found;
 use fast::refusal::Refusal;
 use flash::device::SECTOR_SIZE;
 use flash::numbers::Sector;
 use std::alloc::{AllocError, Global};
+use std::fmt::Display;
 use store::store::Store;
 
 // What a line is refused with that is not understood.
@@ -28,149 +30,149 @@ fn pad(buffer: &mut [u8], text: &[u8])
     ensures { buffer.new ≡ padded text.now }
 {
     buffer.fill(0);
-    buffer[0..text.len()].copy_from_slice(text);
-}
-
-// `line K refused M`
-fn push_refused(heap: Global, out: &mut Vec<u8>, line: u64, number: u32) -> Result<(), AllocError>
-    ensures { OnOk result (out.new.items ≡ out.old.items ++ refused_line line number) }
-{
-    let text = format!(in heap; "line {line} refused {number}\n")?;
-    out.extend_from_slice(text.as_bytes())
-}
-
-// `w N erases copies`
-fn push_write(
-    heap: Global,
-    out: &mut Vec<u8>,
-    line: u64,
-    sector: Sector,
-    answer: Result<(u32, u32), Refusal>,
-    bytes: &[u8],
-) -> Result<(), AllocError>
-    ensures { OnOk result (out.new.items ≡ out.old.items ++ reply_line line sector.0 (write_told answer bytes.now)) }
-{
-    match answer {
-        Err(refusal) => push_refused(heap, out, line, refusal.number()),
-        Ok((erases, copies)) => {
-            let n = sector.0;
-            let text = format!(in heap; "w {n} {erases} {copies}\n")?;
-            out.extend_from_slice(text.as_bytes())
-        }
-    }
+    buffer[..text.len()].copy_from_slice(text);
 }
 
 // The bytes before the first zero.
 fn cut(buffer: &[u8]) -> &[u8]
     ensures { result.now ≡ before_zero buffer.now }
 {
-    &buffer[0..before(buffer, 0)]
+    split_once(buffer, 0).map_or(buffer, |(text, _)| text)
 }
 
-// `r N =` with the bytes before the first zero
-fn push_bytes(heap: Global, out: &mut Vec<u8>, n: u32, buffer: &[u8]) -> Result<(), AllocError>
-    ensures { OnOk result (out.new.items ≡ out.old.items ++ bytes_line n buffer.now) }
-{
-    let text = format!(in heap; "r {n} =")?;
-    out.extend_from_slice(text.as_bytes())?;
-    out.extend_from_slice(cut(buffer))?;
-    out.push(b'\n')?;
-    Ok(())
-}
-
-// `r N =` with bytes, or `r N -`
-fn push_read(
+// What is printed so far, and the number of the line whose turn it is.
+#[derive(Drop)]
+struct Output {
     heap: Global,
-    out: &mut Vec<u8>,
+    bytes: Vec<u8>,
     line: u64,
-    sector: Sector,
-    answer: Result<Found, Refusal>,
-    buffer: &[u8],
-) -> Result<(), AllocError>
-    ensures { OnOk result (out.new.items ≡ out.old.items ++ reply_line line sector.0 (read_told answer buffer.now)) }
-{
-    let n = sector.0;
-    match answer {
-        Err(refusal) => push_refused(heap, out, line, refusal.number()),
-        Ok(Found::NeverWritten) => {
-            let text = format!(in heap; "r {n} -\n")?;
-            out.extend_from_slice(text.as_bytes())
+}
+
+impl Output {
+    fn push<T: Display + Drop>(&mut self, text: T) -> Result<(), AllocError>
+        ensures text { OnOk result (IfSome (T.Display.output text) (λ s. self.new.bytes.items ≡ self.old.bytes.items ++ s)) }
+        ensures line { self.new.line ≡ self.old.line }
+    {
+        let text = text.to_string(self.heap)?;
+        self.bytes.extend_from_slice(text.as_bytes())
+    }
+
+    // `line K refused M`
+    fn refused(&mut self, number: u32) -> Result<(), AllocError>
+        ensures text { OnOk result (self.new.bytes.items ≡ self.old.bytes.items ++ refused_line self.old.line number) }
+        ensures line { self.new.line ≡ self.old.line }
+    {
+        let line = self.line;
+        self.push(format_args!("line {line} refused {number}\n"))
+    }
+
+    // `w N erases copies`
+    fn wrote(
+        &mut self,
+        sector: Sector,
+        answer: Result<(u32, u32), Refusal>,
+        bytes: &[u8],
+    ) -> Result<(), AllocError>
+        ensures text { OnOk result (self.new.bytes.items ≡ self.old.bytes.items ++ reply_line self.old.line sector.0 (write_told answer bytes.now)) }
+        ensures line { self.new.line ≡ self.old.line }
+    {
+        match answer {
+            Err(refusal) => self.refused(refusal.number()),
+            Ok((erases, copies)) => {
+                let n = sector.0;
+                self.push(format_args!("w {n} {erases} {copies}\n"))
+            }
         }
-        Ok(Found::Bytes) => push_bytes(heap, out, n, buffer),
+    }
+
+    // `r N =` with the bytes before the first zero
+    fn bytes(&mut self, n: u32, buffer: &[u8]) -> Result<(), AllocError>
+        ensures text { OnOk result (self.new.bytes.items ≡ self.old.bytes.items ++ bytes_line n buffer.now) }
+        ensures line { self.new.line ≡ self.old.line }
+    {
+        self.push(format_args!("r {n} ="))?;
+        self.bytes.extend_from_slice(cut(buffer))?;
+        self.bytes.push(b'\n')?;
+        Ok(())
+    }
+
+    // `r N =` with bytes, or `r N -`
+    fn read(
+        &mut self,
+        sector: Sector,
+        answer: Result<Found, Refusal>,
+        buffer: &[u8],
+    ) -> Result<(), AllocError>
+        ensures text { OnOk result (self.new.bytes.items ≡ self.old.bytes.items ++ reply_line self.old.line sector.0 (read_told answer buffer.now)) }
+        ensures line { self.new.line ≡ self.old.line }
+    {
+        let n = sector.0;
+        match answer {
+            Err(refusal) => self.refused(refusal.number()),
+            Ok(Found::NeverWritten) => self.push(format_args!("r {n} -\n")),
+            Ok(Found::Bytes) => self.bytes(n, buffer),
+        }
     }
 }
 
 // Writes a text to a sector.
 fn run_write<S: Store>(
-    heap: Global,
     store: &mut S,
-    line: u64,
     sector: Sector,
     text: &[u8],
-    out: &mut Vec<u8>,
+    out: &mut Output,
 ) -> Result<(), AllocError>
     requires { length text.now ≤ 512 }
-    ensures adds { OnOk result (S.Store.valid store.old → Adds (S.Store.table store.old) line (Some (says_write sector.0 text.now)) out.old.items out.new.items (S.Store.table store.new)) }
+    ensures adds { OnOk result (S.Store.valid store.old → Adds Does (S.Store.table store.old) out.old.line (Some (says_write sector.0 text.now)) out.old.bytes.items out.new.bytes.items (S.Store.table store.new)) }
+    ensures made { OnOk result (Adds (Asks S.Store.makes) store.old out.old.line (Some (says_write sector.0 text.now)) out.old.bytes.items out.new.bytes.items store.new) }
     ensures stays { S.Store.valid store.old → S.Store.valid store.new }
+    ensures line { out.new.line ≡ out.old.line }
 {
     let mut buffer = [0u8; SECTOR_SIZE];
     pad(&mut buffer, text);
     let answer = store.write(sector, &buffer);
-    push_write(heap, out, line, sector, answer, &buffer)
+    out.wrote(sector, answer, &buffer)
 }
 
 // Reads a sector.
-fn run_read<S: Store>(
-    heap: Global,
-    store: &S,
-    line: u64,
-    sector: Sector,
-    out: &mut Vec<u8>,
-) -> Result<(), AllocError>
-    ensures { OnOk result (Adds (S.Store.table store.now) line (Some (says_read sector.0)) out.old.items out.new.items (S.Store.table store.now)) }
+fn run_read<S: Store>(store: &S, sector: Sector, out: &mut Output) -> Result<(), AllocError>
+    ensures adds { OnOk result (Adds Does (S.Store.table store.now) out.old.line (Some (says_read sector.0)) out.old.bytes.items out.new.bytes.items (S.Store.table store.now)) }
+    ensures made { OnOk result (Adds (Asks S.Store.makes) store.now out.old.line (Some (says_read sector.0)) out.old.bytes.items out.new.bytes.items store.now) }
+    ensures line { out.new.line ≡ out.old.line }
 {
     let mut buffer = [0u8; SECTOR_SIZE];
     let answer = store.read(sector, &mut buffer);
-    push_read(heap, out, line, sector, answer, &buffer)
+    out.read(sector, answer, &buffer)
 }
 
 // Carries out one line.
-fn run_line<S: Store>(
-    heap: Global,
-    store: &mut S,
-    line: u64,
-    text: &[u8],
-    out: &mut Vec<u8>,
-) -> Result<(), AllocError>
-    ensures adds { OnOk result (S.Store.valid store.old → Adds (S.Store.table store.old) line (said text.now) out.old.items out.new.items (S.Store.table store.new)) }
+fn run_line<S: Store>(store: &mut S, text: &[u8], out: &mut Output) -> Result<(), AllocError>
+    ensures adds { OnOk result (S.Store.valid store.old → Adds Does (S.Store.table store.old) out.old.line (said text.now) out.old.bytes.items out.new.bytes.items (S.Store.table store.new)) }
+    ensures made { OnOk result (Adds (Asks S.Store.makes) store.old out.old.line (said text.now) out.old.bytes.items out.new.bytes.items store.new) }
     ensures stays { S.Store.valid store.old → S.Store.valid store.new }
+    ensures line { out.new.line ≡ out.old.line }
 {
     match Command::parse(text) {
-        None => push_refused(heap, out, line, NOT_UNDERSTOOD),
-        Some(Command::Read { sector }) => run_read(heap, store, line, sector, out),
-        Some(Command::Write { sector, text }) => run_write(heap, store, line, sector, text, out),
+        None => out.refused(NOT_UNDERSTOOD),
+        Some(Command::Read { sector }) => run_read(store, sector, out),
+        Some(Command::Write { sector, text }) => run_write(store, sector, text, out),
     }
 }
 
 // What the lines of an input print, one after the other. A line ends at byte 10 or at the end of the input; an empty end is no line.
 pub fn run<S: Store>(heap: Global, store: &mut S, input: &[u8]) -> Result<Vec<u8>, AllocError>
     ensures prints { IfOk result (λ out. S.Store.valid store.old → Prints (S.Store.table store.old) 1 (lines input.now) out.items (S.Store.table store.new)) }
+    ensures made { IfOk result (λ out. ByLine (Asks S.Store.makes) store.old 1 (lines input.now) out.items store.new) }
     ensures stays { S.Store.valid store.old → S.Store.valid store.new }
 {
-    let mut out = Vec::new(heap);
-    let mut start = 0;
-    let mut number = 1;
-    for (i, byte) in input.iter().enumerate() {
-        if *byte != b'\n' {
-            continue;
-        }
-        run_line(heap, store, number, &input[start..i], &mut out)?;
-        start = i + 1;
-        number += 1;
+    let mut out = Output {
+        heap,
+        bytes: Vec::new(heap),
+        line: 1,
+    };
+    for line in Lines(input) {
+        run_line(store, line, &mut out)?;
+        out.line += 1;
     }
-    if start >= input.len() {
-        return Ok(out);
-    }
-    run_line(heap, store, number, &input[start..], &mut out)?;
-    Ok(out)
+    Ok(out.bytes)
 }

@@ -1,48 +1,49 @@
 -- A list of calls made one after the other, by what is left of it.
-use Rattle.std.proofs.Common.{◌≡◌, ◌+◌, List, [], ◌∷◌, ◌++◌, length, sym, refl, ap, ◌∙◌, ap₂, append_assoc, arith}
-use Rattle.std.proofs.lemmas.List.{append-nil}
-use Rattle.scheme.specs.Runs.{Layer, call, last_layer, replies_of}
+use Rattle.std.proofs.Common.{◌≡◌, ◌+◌, List, [], ◌∷◌, ◌++◌, length, sym, refl, ap, ◌∙◌, ap₂, subst, append_assoc, arith}
+use Rattle.std.proofs.lemmas.List.{append-nil, length_push, map-append}
+use Rattle.scheme.specs.Ledger.{Call, Reply}
+use Rattle.scheme.specs.Runs.{Layer, last_layer, replies_of}
+use Rattle.fast.specs.Makes.{Made, MakesAll}
 use Rattle.fast.specs.Replay.{calls_told, replies_told, reply_told, call_told}
 use Rattle.fast.specs.declared.replay.Call as code_call
 use Rattle.fast.specs.declared.replay.Reply as code_reply
 
-told_push : (rs : List code_reply.Reply) (r : code_reply.Reply) → replies_told (rs ++ (r ∷ [])) ≡ replies_told rs ++ (reply_told r ∷ [])
-told_push [] r = refl
-told_push (q ∷ rs) r = ap (λ qs. reply_told q ∷ qs) (told_push rs r)
-
--- what the calls that are left will make of the layer and of the replies so far is what all calls make of the first layer
-pub record Playing (first : Layer) (all : List code_call.Call) (y : Layer) (left : List code_call.Call) (rs : List code_reply.Reply) : Type 0 where
-  pub layer : last_layer y (calls_told left) ≡ last_layer first (calls_told all)
-  pub replies : replies_told rs ++ replies_of y (calls_told left) ≡ replies_of first (calls_told all)
+-- whatever the calls that are left will be replied to with, and wherever they lead, so it is of all calls from the first on
+pub record Playing {S : Type 0} (makes : S → S → Call → Reply → Type 0) (first : S) (all : List code_call.Call) (x : S) (left : List code_call.Call) (rs : List code_reply.Reply) : Type 0 where
+  pub goes : (rest : List Reply) (z : S) → MakesAll makes x (calls_told left) rest z → MakesAll makes first (calls_told all) (replies_told rs ++ rest) z
   pub count : length rs + length left ≡ length all
 
-pub plays_first : (y : Layer) (all : List code_call.Call) → Playing y all y all []
-plays_first y all = record { layer = refl; replies = refl; count = omega arith }
+module _ {S : Type 0} (makes : S → S → Call → Reply → Type 0) (first : S) (all : List code_call.Call) where
+  pub plays_first : (rs : List code_reply.Reply) → rs ≡ [] → Playing makes first all first all rs
+  plays_first rs e = rw e (record { goes = λ rest z a. a; count = omega arith })
 
-pub plays_more : (first : Layer) (all : List code_call.Call) (y z : Layer) (left rest : List code_call.Call) (next : code_call.Call) (rs more : List code_reply.Reply) (r : code_reply.Reply)
-    → left ≡ next ∷ rest → z ≡ (call y (call_told next)).after → reply_told r ≡ (call y (call_told next)).reply → more ≡ rs ++ (r ∷ [])
-    → Playing first all y left rs → Playing first all z rest more
-plays_more first all y z left rest next rs more r e f h m p =
+  pub plays_more : (x y : S) (left rest : List code_call.Call) (next : code_call.Call) (rs more : List code_reply.Reply) (r : code_reply.Reply)
+      → left ≡ next ∷ rest → makes x y (call_told next) (reply_told r) → more ≡ rs ++ (r ∷ []) → Playing makes first all x left rs → Playing makes first all y rest more
+  plays_more x y left rest next rs more r e m f p =
+      record {
+        goes = λ later z a.
+            subst (λ qs. MakesAll makes first (calls_told all) qs z)
+            (sym (ap (λ qs. replies_told qs ++ later) f ∙ ap (λ qs. qs ++ later) (map-append reply_told rs (r ∷ [])) ∙ append_assoc (replies_told rs) (reply_told r ∷ []) later))
+            (p.goes (reply_told r ∷ later) z (subst (λ cs. MakesAll makes x (calls_told cs) (reply_told r ∷ later) z) (sym e) (y, m, a)));
+        count = omega (arith, ap length e, ap length f, length_push rs r, p.count);
+      }
+
+  pub plays_out : (x : S) (left : List code_call.Call) (rs : List code_reply.Reply) → length left ≡ 0 → Playing makes first all x left rs → MakesAll makes first (calls_told all) (replies_told rs) x
+  plays_out x [] rs e p = subst (λ qs. MakesAll makes first (calls_told all) qs x) (append-nil (replies_told rs)) (p.goes [] x refl)
+  plays_out x (c ∷ left) rs e p = absurd (omega arith)
+
+-- calls on what means a layer are the scheme's calls on that layer
+pub record Played (y z : Layer) (cs : List Call) (rs : List Reply) : Type 0 where
+  pub after : z ≡ last_layer y cs
+  pub replies : rs ≡ replies_of y cs
+
+pub layer_played : {S : Type 0} (means : S → Layer) (x y : S) (cs : List Call) (rs : List Reply) → MakesAll (λ a b. Made (means a) (means b)) x cs rs y → Played (means x) (means y) cs rs
+layer_played means x y [] [] e = record { after = sym (ap means e); replies = refl }
+layer_played means x y [] (r ∷ rs) a = absurd a
+layer_played means x y (c ∷ cs) [] a = absurd a
+layer_played means x y (c ∷ cs) (r ∷ rs) a =
+    let later = layer_played means a.0 y cs rs a.2 in
     record {
-      layer = ap (λ x. last_layer x (calls_told rest)) f ∙ ap (λ cs. last_layer y (calls_told cs)) (sym e) ∙ p.layer;
-      replies =
-          ap₂ (λ qs x. replies_told qs ++ replies_of x (calls_told rest)) m f
-          ∙ ap (λ qs. qs ++ replies_of (call y (call_told next)).after (calls_told rest)) (told_push rs r)
-          ∙ append_assoc (replies_told rs) (reply_told r ∷ []) (replies_of (call y (call_told next)).after (calls_told rest))
-          ∙ ap (λ q. replies_told rs ++ (q ∷ replies_of (call y (call_told next)).after (calls_told rest))) h
-          ∙ ap (λ cs. replies_told rs ++ replies_of y (calls_told cs)) (sym e)
-          ∙ p.replies;
-      count = omega (arith, ap length e, ap length m, length_more rs, p.count);
+      after = later.after ∙ ap (λ w. last_layer w cs) a.1.after;
+      replies = ap₂ (λ q qs. q ∷ qs) a.1.reply (later.replies ∙ ap (λ w. replies_of w cs) a.1.after);
     }
-  where
-    length_more : (qs : List code_reply.Reply) → length (qs ++ (r ∷ [])) ≡ length qs + 1
-    length_more [] = refl
-    length_more (q ∷ qs) = let k = length_more qs in omega arith
-
-pub record Played (first : Layer) (all : List code_call.Call) (y : Layer) (rs : List code_reply.Reply) : Type 0 where
-  pub after : y ≡ last_layer first (calls_told all)
-  pub replies : replies_told rs ≡ replies_of first (calls_told all)
-
-pub plays_out : (first : Layer) (all : List code_call.Call) (y : Layer) (left : List code_call.Call) (rs : List code_reply.Reply) → length left ≡ 0 → Playing first all y left rs → Played first all y rs
-plays_out first all y [] rs e p = record { after = p.layer; replies = sym (append-nil (replies_told rs)) ∙ p.replies }
-plays_out first all y (c ∷ left) rs e p = absurd (omega arith)

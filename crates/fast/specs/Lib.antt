@@ -4,4 +4,5 @@ pub mod Roles
 pub mod Meaning
 pub mod Leaves
 pub mod Told
+pub mod Makes
 pub mod Replay

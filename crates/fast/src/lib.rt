@@ -12,6 +12,7 @@ pub mod numbers;
 pub mod refusal;
 pub mod replay;
 pub mod roles;
+pub mod sectors;
 mod start;
 mod steps;
 mod tables;

@@ -3,15 +3,16 @@
 // It is here for what its contract says. A layer's read and write speak of the run that led to them; this call has the whole run in its
 // hands, and so states the law outright, of the very replies that it gives back.
 
-ghost use Rattle.std.specs.Prelude.{◌≡◌, ◌≤◌, [], IfOk, IfErr, vec_len, vec_capacity};
+ghost use Rattle.std.specs.Prelude.{◌≡◌, ◌≤◌, [], IfOk, IfErr, OnErr, vec_len, vec_capacity};
 ghost use Rattle.scheme.specs.Law.{Law, Reached};
-ghost use Rattle.scheme.specs.Runs.{call, last_layer, replies_of};
+ghost use Rattle.fast.specs.Makes.{MakesAll};
 ghost use Rattle.fast.specs.Replay.{call_told, calls_told, reply_told, replies_told};
 ghost use Rattle.fast.specs.Told.{layer_of, started};
 
 use crate::fit::Plan;
 use crate::layer::{Found, Layer};
 use crate::refusal::Refusal;
+use crate::sectors::Sectors;
 use flash::device::Device;
 use flash::numbers::Sector;
 use std::alloc::{AllocError, Global};
@@ -37,20 +38,19 @@ pub struct Reply {
 }
 
 // Makes one call.
-fn make<D: Device>(layer: &mut Layer<D>, next: Call) -> Reply
-    ensures reply { reply_told result ≡ (call (layer_of D.Device.flash layer.old) (call_told next)).reply }
-    ensures after { layer_of D.Device.flash layer.new ≡ (call (layer_of D.Device.flash layer.old) (call_told next)).after }
+fn make<S: Sectors>(sectors: &mut S, next: Call) -> Reply
+    ensures { S.Sectors.makes sectors.old sectors.new (call_told next) (reply_told result) }
 {
     match next {
         Call::Read(sector, mut buffer) => {
-            let found = layer.read(sector, &mut buffer);
+            let found = sectors.read(sector, &mut buffer);
             Reply {
                 answer: Answer::Read(found),
                 buffer,
             }
         }
         Call::Write(sector, buffer) => {
-            let counts = layer.write(sector, &buffer);
+            let counts = sectors.write(sector, &buffer);
             Reply {
                 answer: Answer::Write(counts),
                 buffer,
@@ -60,16 +60,29 @@ fn make<D: Device>(layer: &mut Layer<D>, next: Call) -> Reply
 }
 
 // Makes all calls, and puts each reply at the end of a list that has room for them.
-fn make_all<D: Device>(layer: &mut Layer<D>, calls: Vec<Call>, replies: &mut Vec<Reply>)
+fn make_all<S: Sectors>(sectors: &mut S, calls: Vec<Call>, replies: &mut Vec<Reply>)
     requires none { replies.old.items ≡ [] }
     requires room { vec_len calls ≤ vec_capacity replies.old }
-    ensures after { layer_of D.Device.flash layer.new ≡ last_layer (layer_of D.Device.flash layer.old) (calls_told calls.items) }
-    ensures replies { replies_told replies.new.items ≡ replies_of (layer_of D.Device.flash layer.old) (calls_told calls.items) }
+    ensures { MakesAll S.Sectors.makes sectors.old (calls_told calls.items) (replies_told replies.new.items) sectors.new }
 {
     for next in calls {
-        let reply = make(layer, next);
+        let reply = make(sectors, next);
         replies.push_reserved(reply);
     }
+}
+
+// Makes a list of calls on whatever takes them, and gives back each call's answer and buffer. For want of memory nothing is done.
+pub fn play<S: Sectors>(
+    heap: Global,
+    sectors: &mut S,
+    calls: Vec<Call>,
+) -> Result<Vec<Reply>, AllocError>
+    ensures made { IfOk result (λ replies. MakesAll S.Sectors.makes sectors.old (calls_told calls.items) (replies_told replies.items) sectors.new) }
+    ensures untouched { OnErr result (sectors.new ≡ sectors.old) }
+{
+    let mut replies = Vec::with_capacity(heap, calls.len())?;
+    make_all(sectors, calls, &mut replies);
+    Ok(replies)
 }
 
 // Formats a device and makes a list of calls. Gives back the layer, and each call's answer and buffer. For want of memory nothing is

@@ -2,7 +2,7 @@
 // without the module's types.
 
 use chips::blank::blank_image;
-use chips::module::{LEFT_BLOCKS, RIGHT_BLOCKS, two_chips};
+use chips::module::{LEFT, RIGHT, two_chips};
 use fast::fit::Plan;
 use fast::layer::{Found, Layer};
 use fast::refusal::Refusal;
@@ -11,7 +11,6 @@ use flash::device::{Device, SECTOR_SIZE};
 use flash::join::Join;
 use flash::numbers::Sector;
 use flash::window::Window;
-use image::shape::Geometry;
 use std::alloc::Global;
 use std::process::Abort;
 use std::test::Fail;
@@ -55,15 +54,6 @@ const STALE_ENTRY: [(u32, u32, u32); 11] = [
     (9, 0, 0),
     (10, 3, 8),
 ];
-
-fn blank_chip(heap: Global, blocks: u32) -> Result<Vec<u8>, Fail> {
-    let geometry = Geometry {
-        blocks,
-        pages: 4,
-        life: 100,
-    };
-    blank_image(heap, geometry).map_err(|_| Fail::new("no blank chip"))
-}
 
 fn write<D: Device>(layer: &mut Layer<D>, n: u32) -> Result<(u32, u32), Refusal> {
     layer.write(Sector(n), &[(n & 0xff) as u8; SECTOR_SIZE])
@@ -150,8 +140,8 @@ fn on_module<F: FnOnce(&mut Layer<Join<ImageChip, Window<ImageChip>>>) -> Result
 ) -> Result<bool, Fail>
     requires { F.IsAlwaysCallable case }
 {
-    let mut left = blank_chip(heap, LEFT_BLOCKS)?;
-    let mut right = blank_chip(heap, RIGHT_BLOCKS)?;
+    let mut left = blank_image(heap, LEFT)?;
+    let mut right = blank_image(heap, RIGHT)?;
     assert!(rt; left.len() > 20);
     left[20] = erased;
     let before = left.clone()?;
@@ -161,9 +151,7 @@ fn on_module<F: FnOnce(&mut Layer<Join<ImageChip, Window<ImageChip>>>) -> Result
         random: 2,
         first_stamp,
     };
-    let Ok(mut layer) = Layer::format(heap, device, plan) else {
-        return Err(Fail::new("no memory"));
-    };
+    let mut layer = Layer::format(heap, device, plan).map_err(|(_, error)| error)?;
     case(&mut layer)?;
     drop(layer);
     Ok(left == before)

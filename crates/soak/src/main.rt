@@ -4,8 +4,8 @@
 
 #![tactic(auto)]
 
-use anyhow::{Context, anyhow};
-use chips::blank::blank_image;
+use anyhow::Context;
+use chips::blank::{NoImage, blank_image};
 use fast::fit::Plan;
 use fast::layer::{Found, Layer};
 use flash::chip::ImageChip;
@@ -184,13 +184,13 @@ fn soak<D: Device>(layer: &mut Layer<D>, ledger: &mut [Option<u32>]) -> Tally {
 }
 
 // A blank chip, whose blocks bear 100,000 erases.
-fn blank_chip(heap: Global, blocks: u32, pages: u32) -> anyhow::Result<Vec<u8>> {
+fn blank_chip(heap: Global, blocks: u32, pages: u32) -> Result<Vec<u8>, NoImage> {
     let geometry = Geometry {
         blocks,
         pages,
         life: 100_000,
     };
-    blank_image(heap, geometry).map_err(|_| anyhow!("no memory for the chips"))
+    blank_image(heap, geometry)
 }
 
 fn format<D: Device + Drop>(heap: Global, device: D, plan: Plan) -> anyhow::Result<Layer<D>> {

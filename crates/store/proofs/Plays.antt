@@ -1,15 +1,10 @@
--- Calls on a store one after the other, by what is left of them.
-use Rattle.std.proofs.Common.{◌≡◌, ℕ, List, [], ◌∷◌, ◌++◌, length, sym, refl, ap, ◌∙◌, subst, append_assoc, arith}
-use Rattle.std.proofs.lemmas.List.{append-nil}
-use Rattle.fast.specs.declared.replay.Call as code_call
-use Rattle.fast.specs.declared.replay.Reply as code_reply
-use Rattle.fast.specs.Replay.{call_told, calls_told, reply_told, replies_told}
-use Rattle.scheme.specs.Ledger.{Call, read, write, Answer, refused, never_written, bytes, wrote, Reply, Ledger, reads, ledger_next, Answered, AllAnswered}
+-- Calls on a store one after the other.
+use Rattle.std.proofs.Common.{◌≡◌, List, [], ◌∷◌, Ok, Err, Result, sym, refl, ap, ◌∙◌, subst}
+use Rattle.std.specs.Result.{IfOk, OnErr}
+use Rattle.fast.specs.Makes.{MakesAll}
+use Rattle.scheme.specs.Ledger.{Call, read, write, Answer, refused, never_written, bytes, wrote, Reply, Ledger, ledger_next, Answered, AllAnswered}
 use Rattle.store.specs.Meaning.{Table}
 use Rattle.store.specs.Played.{ledger_of, Made}
-
-pub read_made : (t : Table) (c : Call) (n : ℕ) (x : List ℕ) (r : Reply) → c ≡ read n x → r ≡ reads t.size t.line n x → Made t t c r
-read_made t c n x r e f = subst (λ d. Made t t d r) (sym e) (record { answered = f; size = refl; line = refl })
 
 -- two ledgers with the same lines say the same of calls
 same_answered : (g h : Ledger) → g.size ≡ h.size → g.line ≡ h.line → (cs : List Call) (rs : List Reply) → AllAnswered g cs rs → AllAnswered h cs rs
@@ -36,37 +31,56 @@ same_answered g h e f (c ∷ cs) (r ∷ rs) a = (first c r a.0, same_answered (l
     lines (write n x) never_written = f
     lines (write n x) bytes = f
 
-told_push : (rs : List code_reply.Reply) (r : code_reply.Reply) → replies_told (rs ++ (r ∷ [])) ≡ replies_told rs ++ (reply_told r ∷ [])
-told_push [] r = refl
-told_push (q ∷ rs) r = ap (λ qs. reply_told q ∷ qs) (told_push rs r)
+-- what a call makes of something that holds a store: the same store, what the store makes of it, and where that is a valid one, what the ledger says
+abbrev pub Asks : {A S N : Type 0} → (A → N) → (A → S) → (S → S → Call → Reply → Type 0) → (S → Table) → (S → Type 0) → A → A → Call → Reply → Type 0
+Asks name store makes table valid x y c r = (name y ≡ name x) × makes (store x) (store y) c r × (valid (store x) → Made (table (store x)) (table (store y)) c r × valid (store y))
 
--- whatever the calls that are left will be answered with, all calls are then answered as the first ledger says
-pub record Playing (first : Table) (all : List code_call.Call) (t : Table) (left : List code_call.Call) (rs : List code_reply.Reply) : Type 0 where
-  pub goes : (rest : List Reply) → AllAnswered (ledger_of t) (calls_told left) rest → AllAnswered (ledger_of first) (calls_told all) (replies_told rs ++ rest)
+module _ {A S N : Type 0} (name : A → N) (store : A → S) (makes : S → S → Call → Reply → Type 0) (table : S → Table) (valid : S → Type 0) where
+  name_stays : (x y : A) (cs : List Call) (rs : List Reply) → MakesAll (Asks name store makes table valid) x cs rs y → name y ≡ name x
+  name_stays x y [] [] e = sym (ap name e)
+  name_stays x y [] (r ∷ rs) a = absurd a
+  name_stays x y (c ∷ cs) [] a = absurd a
+  name_stays x y (c ∷ cs) (r ∷ rs) a = name_stays a.0 y cs rs a.2 ∙ a.1.0
 
-pub plays_first : (t : Table) (all : List code_call.Call) → Playing t all t all []
-plays_first t all = record { goes = λ rest a. a }
+  store_makes : (x y : A) (cs : List Call) (rs : List Reply) → MakesAll (Asks name store makes table valid) x cs rs y → MakesAll makes (store x) cs rs (store y)
+  store_makes x y [] [] e = ap store e
+  store_makes x y [] (r ∷ rs) a = a
+  store_makes x y (c ∷ cs) [] a = a
+  store_makes x y (c ∷ cs) (r ∷ rs) a = (store a.0, a.1.1, store_makes a.0 y cs rs a.2)
 
-pub plays_more : (first : Table) (all : List code_call.Call) (t u : Table) (left rest : List code_call.Call) (next : code_call.Call) (rs more : List code_reply.Reply) (r : code_reply.Reply)
-    → left ≡ next ∷ rest → Made t u (call_told next) (reply_told r) → more ≡ rs ++ (r ∷ []) → Playing first all t left rs → Playing first all u rest more
-plays_more first all t u left rest next rs more r e m f p = record {
-  goes = λ later a.
-      let one : AllAnswered (ledger_of t) (calls_told left) (reply_told r ∷ later) =
-      subst (λ cs. AllAnswered (ledger_of t) (calls_told cs) (reply_told r ∷ later)) (sym e)
-      (m.answered, same_answered (ledger_of u) (ledger_next (ledger_of t) (call_told next) (reply_told r).answer) (m.size ∙ sizes (call_told next) (reply_told r).answer) m.line (calls_told rest) later a) in
-      subst (AllAnswered (ledger_of first) (calls_told all))
-      (sym (ap (λ qs. replies_told qs ++ later) f ∙ ap (λ qs. qs ++ later) (told_push rs r) ∙ append_assoc (replies_told rs) (reply_told r ∷ []) later))
-      (p.goes (reply_told r ∷ later) one);
-}
-  where
-    sizes : (c : Call) (a : Answer) → t.size ≡ (ledger_next (ledger_of t) c a).size
-    sizes (read n x) a = refl
-    sizes (write n x) (wrote p q) = refl
-    sizes (write n x) (refused m) = refl
-    sizes (write n x) never_written = refl
-    sizes (write n x) bytes = refl
+  all_answered : (x y : A) (cs : List Call) (rs : List Reply) → MakesAll (Asks name store makes table valid) x cs rs y → valid (store x) →
+      AllAnswered (ledger_of (table (store x))) cs rs × valid (store y)
+  all_answered x y [] [] e v = (tt, subst valid (ap store e) v)
+  all_answered x y [] (r ∷ rs) a v = absurd a
+  all_answered x y (c ∷ cs) [] a v = absurd a
+  all_answered x y (c ∷ cs) (r ∷ rs) a v =
+      let made = a.1.2 v in
+      let later = all_answered a.0 y cs rs a.2 made.1 in
+      ((made.0.answered, same_answered (ledger_of (table (store a.0))) (ledger_next (ledger_of (table (store x))) c r.answer) (made.0.size ∙ sizes (table (store x)) c r.answer) made.0.line cs rs later.0), later.1)
+    where
+      sizes : (t : Table) (c : Call) (a : Answer) → t.size ≡ (ledger_next (ledger_of t) c a).size
+      sizes t (read n x) a = refl
+      sizes t (write n x) (wrote p q) = refl
+      sizes t (write n x) (refused m) = refl
+      sizes t (write n x) never_written = refl
+      sizes t (write n x) bytes = refl
 
-pub plays_out : (first : Table) (all : List code_call.Call) (t : Table) (left : List code_call.Call) (rs : List code_reply.Reply) → length left ≡ 0 → Playing first all t left rs →
-    AllAnswered (ledger_of first) (calls_told all) (replies_told rs)
-plays_out first all t [] rs e p = subst (AllAnswered (ledger_of first) (calls_told all)) (append-nil (replies_told rs)) (p.goes [] tt)
-plays_out first all t (c ∷ left) rs e p = absurd (omega arith)
+  -- a list of calls that was made, or was not for want of memory
+  pub record Outcome {V E : Type 0} (told : V → List Reply) (x y : A) (cs : List Call) (r : Result V E) : Type 0 where
+    pub same : name x ≡ name y
+    pub law : IfOk r (λ v. valid (store x) → AllAnswered (ledger_of (table (store x))) cs (told v))
+    pub made : IfOk r (λ v. MakesAll makes (store x) cs (told v) (store y))
+    pub stays : valid (store x) → valid (store y)
+    pub untouched : OnErr r (store y ≡ store x)
+
+  pub outcome : {V E : Type 0} (told : V → List Reply) (x y : A) (cs : List Call) (r : Result V E)
+      → IfOk r (λ v. MakesAll (Asks name store makes table valid) x cs (told v) y) → OnErr r (y ≡ x) → Outcome told x y cs r
+  outcome told x y cs (Ok v) a e =
+      record {
+        same = sym (name_stays x y cs (told v) a);
+        law = λ ok. (all_answered x y cs (told v) a ok).0;
+        made = store_makes x y cs (told v) a;
+        stays = λ ok. (all_answered x y cs (told v) a ok).1;
+        untouched = tt;
+      }
+  outcome told x y cs (Err m) a e = record { same = sym (ap name e); law = tt; made = tt; stays = subst (λ z. valid (store z)) (sym e); untouched = ap store e }

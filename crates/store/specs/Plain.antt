@@ -3,7 +3,8 @@ use Rattle.std.specs.Prelude.{◌≡◌, ℕ, ◌+◌, ◌*◌, ◌/◌, ◌<◌
 use Rattle.fast.specs.declared.refusal.Refusal.{Refusal}
 use Rattle.fast.specs.declared.refusal.Refusal.TheVariants.{NoSuchSector, BufferNotASector, BlocksWornOut, StampsUsedUp}
 use Rattle.flash.specs.Patched.{all_patched}
-use Rattle.store.specs.Meaning.{Table}
+use Rattle.scheme.specs.Ledger.{Call, read, write, Answer, refused, wrote, Reply, reads}
+use Rattle.store.specs.Meaning.{Table, write_refusal}
 
 -- As many sectors as there is room for, at most 65,536; what is left over is no sector.
 abbrev pub plain_size : List ℕ → ℕ
@@ -34,3 +35,21 @@ Slot bs n len (Err NoSuchSector) = plain_size bs ≤ n
 Slot bs n len (Err BufferNotASector) = (n < plain_size bs) × (len ≢ 512)
 Slot bs n len (Err BlocksWornOut) = ⊥
 Slot bs n len (Err StampsUsedUp) = ⊥
+
+-- A write that is not refused erases and copies nothing.
+abbrev pub plain_answer : Option ℕ → Answer
+plain_answer None = wrote 0 0
+plain_answer (Some m) = refused m
+
+-- What a call replies, and the bytes after it.
+abbrev pub plain_reply : List ℕ → Call → Reply
+plain_reply bs (read n buffer) = reads (plain_size bs) (plain_line bs) n buffer
+plain_reply bs (write n ys) = record { answer = plain_answer (write_refusal (plain_table bs) n (length ys)); buffer = ys }
+
+abbrev pub plain_next : List ℕ → Call → List ℕ
+plain_next bs (read n buffer) = bs
+plain_next bs (write n ys) = plain_after (write_refusal (plain_table bs) n (length ys)) bs n ys
+
+pub record PlainMade (bs cs : List ℕ) (c : Call) (r : Reply) : Type 0 where
+  pub reply : r ≡ plain_reply bs c
+  pub bytes : cs ≡ plain_next bs c

@@ -5,6 +5,7 @@
 // overwrite could wear out a block, 14 once the stamps are used up. Neither ever goes away.
 
 ghost use Rattle.std.specs.Prelude.{◌≡◌};
+ghost use Rattle.fast.specs.Makes.{Made};
 ghost use Rattle.fast.specs.Told.{layer_of, write_told};
 ghost use Rattle.scheme.specs.Ledger.{write};
 ghost use Rattle.scheme.specs.Runs.{call};
@@ -23,6 +24,8 @@ impl<D: Device> Store for Layer<D> {
 
     ghost valid = { λ y. Reachable (layer_of D.Device.flash y) };
 
+    ghost makes = { λ y z. Made (layer_of D.Device.flash y) (layer_of D.Device.flash z) };
+
     fn sectors(&self) -> u32 {
         Layer::sectors(self)
     }
@@ -35,6 +38,7 @@ impl<D: Device> Store for Layer<D> {
         ensures after { Reachable (layer_of D.Device.flash self.old) → Written (layer_table (layer_of D.Device.flash self.old)) (layer_table (layer_of D.Device.flash self.new)) sector.0 bytes.now (refusal_told result) }
         ensures stays { Reachable (layer_of D.Device.flash self.old) → Reachable (layer_of D.Device.flash self.new) }
         ensures reply { write_told result bytes.now ≡ (call (layer_of D.Device.flash self.old) (write sector.0 bytes.now)).reply }
+        ensures made { Made (layer_of D.Device.flash self.old) (layer_of D.Device.flash self.new) (write sector.0 bytes.now) (write_told result bytes.now) }
         ensures layer { layer_of D.Device.flash self.new ≡ (call (layer_of D.Device.flash self.old) (write sector.0 bytes.now)).after }
     {
         Layer::write(self, sector, bytes)

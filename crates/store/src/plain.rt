@@ -3,24 +3,21 @@
 // It refuses no write that names a sector and brings one, and answers no erases and no copies. It is what the layer is compared with.
 
 ghost use Rattle.std.specs.Prelude.{◌≡◌, ◌+◌, ◌*◌, ◌<◌, ◌≤◌, not, [], ◌∷◌, length, IfOk, ◌==◌};
-ghost use Rattle.fast.specs.Told.{found_told};
+ghost use Rattle.fast.specs.Told.{found_told, write_told};
 ghost use Rattle.flash.specs.Patched.{all_patched};
-ghost use Rattle.scheme.specs.Ledger.{shown};
+ghost use Rattle.scheme.specs.Ledger.{write, shown};
 ghost use Rattle.store.specs.Meaning.{Written};
-ghost use Rattle.store.specs.Plain.{plain_size, plain_at, plain_table, plain_after, Slot};
+ghost use Rattle.store.specs.Plain.{plain_size, plain_at, plain_table, plain_after, PlainMade, Slot};
 ghost use Rattle.store.specs.Told.{refusal_told};
 
-use crate::store::Store;
+use crate::store::{MOST_SECTORS, Store};
 use fast::layer::Found;
 use fast::refusal::Refusal;
 use flash::device::SECTOR_SIZE;
 use flash::numbers::Sector;
 
 // A sector with the byte before it.
-const SLOT_SIZE: usize = SECTOR_SIZE + 1;
-
-// The most sectors that are shown.
-const MOST_SECTORS: usize = 65_536;
+pub const SLOT_SIZE: usize = SECTOR_SIZE + 1;
 
 #[derive(Drop)]
 pub struct PlainStore<'a> {
@@ -70,7 +67,7 @@ impl<'a> PlainStore<'a> {
         ensures value { result ≡ plain_size self.now.bytes.now }
         ensures bound { (result ≤ 65536) × (513 * result ≤ length self.now.bytes.now) }
     {
-        (self.bytes.len() / SLOT_SIZE).min(MOST_SECTORS)
+        (self.bytes.len() / SLOT_SIZE).min(MOST_SECTORS as usize)
     }
 
     // Where a sector's slot begins, for a buffer of so many bytes.
@@ -92,6 +89,8 @@ impl<'a> Store for PlainStore<'a> {
 
     ghost valid = { λ _. Unit {0} };
 
+    ghost makes = { λ s t. PlainMade s.bytes.now t.bytes.now };
+
     fn sectors(&self) -> u32 {
         self.slots() as u32
     }
@@ -104,6 +103,7 @@ impl<'a> Store for PlainStore<'a> {
     fn write(&mut self, sector: Sector, bytes: &[u8]) -> Result<(u32, u32), Refusal>
         ensures after { Unit {0} → Written (plain_table self.old.bytes.now) (plain_table self.new.bytes.now) sector.0 bytes.now (refusal_told result) }
         ensures stays { Unit {0} → Unit {0} }
+        ensures made { PlainMade self.old.bytes.now self.new.bytes.now (write sector.0 bytes.now) (write_told result bytes.now) }
         ensures bytes { self.new.bytes.now ≡ plain_after (refusal_told result) self.old.bytes.now sector.0 bytes.now }
         ensures counts { IfOk result (λ p. (p.0 ≡ 0) × (p.1 ≡ 0)) }
     {

@@ -5,7 +5,6 @@
 
 #![tactic(auto)]
 
-use anyhow::anyhow;
 use chips::blank::blank_image;
 use console::respond::{MOST_BYTES, respond};
 use fast::fit::Plan;
@@ -14,16 +13,20 @@ use flash::chip::ImageChip;
 use image::shape::Geometry;
 use input::read_input;
 use std::io::Write;
-use store::plain::PlainStore;
+use store::plain::{PlainStore, SLOT_SIZE};
 use store::spread::Spread;
 use store::store::Store;
-
-const PLAIN_SECTOR: usize = 513;
 
 const GEOMETRY: Geometry = Geometry {
     blocks: 8,
     pages: 4,
     life: 100,
+};
+
+const PLAN: Plan = Plan {
+    logical: 4,
+    random: 2,
+    first_stamp: 1,
 };
 
 fn print_run<S: Store>(
@@ -39,26 +42,14 @@ fn print_run<S: Store>(
 }
 
 fn run_plain(rt: &HostRuntime, input: &[u8]) -> anyhow::Result<()> {
-    let mut bytes = vec![in rt.alloc(); 0u8; 16 * PLAIN_SECTOR]?;
+    let mut bytes = vec![in rt.alloc(); 0u8; 16 * SLOT_SIZE]?;
     print_run(rt, "plain", &mut PlainStore::new(&mut bytes), input)
 }
 
 fn run_spread(rt: &HostRuntime, input: &[u8]) -> anyhow::Result<()> {
-    let Ok(mut image) = blank_image(rt.alloc(), GEOMETRY) else {
-        return Err(anyhow!("no memory for the chip"));
-    };
-    let Ok(layer) = Layer::format(
-        rt.alloc(),
-        ImageChip::new(&mut image),
-        Plan {
-            logical: 4,
-            random: 2,
-            first_stamp: 1,
-        },
-    ) else {
-        return Err(anyhow!("no memory for the tables"));
-    };
-    let mut bytes = vec![in rt.alloc(); 0u8; 8 * PLAIN_SECTOR]?;
+    let mut image = blank_image(rt.alloc(), GEOMETRY)?;
+    let layer = Layer::format(rt.alloc(), ImageChip::new(&mut image), PLAN).map_err(|(_, error)| error)?;
+    let mut bytes = vec![in rt.alloc(); 0u8; 8 * SLOT_SIZE]?;
     let mut spread = Spread {
         left: PlainStore::new(&mut bytes),
         right: layer,
@@ -66,12 +57,8 @@ fn run_spread(rt: &HostRuntime, input: &[u8]) -> anyhow::Result<()> {
     print_run(rt, "spread", &mut spread, input)
 }
 
-fn run(rt: &HostRuntime) -> anyhow::Result<()> {
-    let input = read_input(rt.alloc(), rt.stdin(), MOST_BYTES)?;
-    run_plain(rt, &input)?;
-    run_spread(rt, &input)
-}
-
 fn main(rt: HostRuntime) -> anyhow::Result<()> {
-    run(&rt)
+    let input = read_input(rt.alloc(), rt.stdin(), MOST_BYTES)?;
+    run_plain(&rt, &input)?;
+    run_spread(&rt, &input)
 }

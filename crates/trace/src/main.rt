@@ -7,19 +7,17 @@
 
 #![tactic(auto)]
 
-use anyhow::{Context, anyhow};
+use anyhow::Context;
 use chips::blank::blank_image;
-use chips::module::{LEFT_BLOCKS, RIGHT_BLOCKS, two_chips};
+use chips::module::{LEFT, RIGHT, two_chips};
 use fast::fit::Plan;
 use fast::layer::Layer;
 use flash::chip::ImageChip;
 use flash::device::{Device, SECTOR_SIZE};
 use flash::numbers::Sector;
-use image::shape::Geometry;
 use log::Log;
 use operation::Operation;
 use recorder::Recorder;
-use std::alloc::Global;
 
 mod log;
 mod operation;
@@ -36,16 +34,6 @@ const PLAN: Plan = Plan {
     random: 2,
     first_stamp: 1,
 };
-
-// A blank chip of so many blocks, 4 pages each, with a life of 100.
-fn blank_chip(heap: Global, blocks: u32) -> anyhow::Result<Vec<u8>> {
-    let geometry = Geometry {
-        blocks,
-        pages: 4,
-        life: 100,
-    };
-    blank_image(heap, geometry).map_err(|_| anyhow!("no memory for the chips"))
-}
 
 fn write_all<D: Device>(layer: &mut Layer<D>) -> anyhow::Result<()> {
     for n in WRITES {
@@ -65,8 +53,8 @@ fn print_all(rt: &HostRuntime, operations: &[Operation]) -> anyhow::Result<()> {
 
 fn main(rt: HostRuntime) -> anyhow::Result<()> {
     let heap = rt.alloc();
-    let mut left = blank_chip(heap, LEFT_BLOCKS)?;
-    let mut right = blank_chip(heap, RIGHT_BLOCKS)?;
+    let mut left = blank_image(heap, LEFT)?;
+    let mut right = blank_image(heap, RIGHT)?;
     let module = two_chips(ImageChip::new(&mut left), ImageChip::new(&mut right));
     let device = Recorder::new(module, Log::new(heap)?);
     let mut layer = Layer::format(heap, device, PLAN)

@@ -23,16 +23,10 @@ impl fmt::Display for Operation {
     fn fmt<W: fmt::Write>(&self, f: &mut fmt::Formatter<W>) -> fmt::Result {
         match *self {
             Operation::Program { block, page, mark } => {
-                let b = block.0;
-                let p = page.0;
-                let n = mark.sector.0;
-                let s = mark.stamp;
-                write!(f, "program {b} {p} sector {n} stamp {s}")
+                let Mark { sector, stamp } = mark;
+                write!(f, "program {block} {page} sector {sector} stamp {stamp}")
             }
-            Operation::Erase(block) => {
-                let b = block.0;
-                write!(f, "erase {b}")
-            }
+            Operation::Erase(block) => write!(f, "erase {block}"),
         }
     }
 }

@@ -6,5 +6,5 @@ use Rattle.console.proofs.command.parse_number.Given as goal
 abbrev pub invariant-loop-digit : goal.invariant-loop-digit
 invariant-loop-digit l =
     (l.value ≡ value (take l.digit-index l.digits))
-    × (l.value < 10 ^ l.digit-index)
     × (prefix_len digit l.digits ≡ l.digit-index + prefix_len digit (drop l.digit-index l.digits))
+    × (l.value < 2 ^ 32)

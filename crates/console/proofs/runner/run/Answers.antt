@@ -1,58 +1,37 @@
-use Rattle.std.proofs.Common.{◌≡◌, ◌+◌, [], length, get_or, vec_items, refl, subst, arith}
-use Rattle.std.specs.List.{between}
+use Rattle.std.proofs.Common.{◌+◌, length, ap, arith}
 use Rattle.console.specs.Lines.{lines}
-use Rattle.console.proofs.Progress.{Onward, lines_at, onward_line, onward_last, line_ends, line_goes, last_line, no_line}
+use Rattle.console.specs.Running.{Does, Asks}
+use Rattle.console.proofs.Progress.{onward_first, onward_line, onward_last, few}
 use Rattle.console.proofs.runner.run.Goals as goal
 
-pub loop-i-preserved-then-byte-ne10 : goal.loop-i-preserved-then-byte-ne10
-loop-i-preserved-then-byte-ne10 g c =
-    let bs = c.args.input.now in
-    let l = c.loop-i in
-    let same : lines_at c.loop-i.start c.loop-i.i c.args.input.now ≡ lines_at c.loop-i.start (c.loop-i.i + 1) c.args.input.now =
-    line_goes c.args.input.now c.loop-i.start c.loop-i.i l.invariant.0 (omega arith) (λ e. omega arith) in (
-      omega arith,
-      omega arith,
-      l.invariant.2,
-      λ v. subst (λ left. Onward (g.S.Store.table c.args.store.now) (lines bs) (g.S.Store.table l.store) l.number left (vec_items l.out)) same (l.invariant.3 v),
+pub loop-line-init : goal.loop-line-init
+loop-line-init g c =
+    let all = ap (λ it. lines it.0.now) c.into_iter-line-iterator.ensures.into_iter_gives in
+    (tt, tt, ap (λ ls. 1 + length ls) all, λ v. v, λ v. onward_first Does _ _ _ _ all c.new.ensures.items, onward_first (Asks g.S.Store.makes) _ _ _ _ all c.new.ensures.items)
+
+pub overflow_add-out : goal.overflow_add-out
+overflow_add-out g c =
+    omega (arith, c.loop-line.invariant.2, ap length c.in-Some.ensures.steps, c.run_line.ensures.line, few c.args.input.now)
+
+pub loop-line-preserved : goal.loop-line-preserved
+loop-line-preserved g c =
+    let l = c.loop-line in
+    let table = g.S.Store.table in (
+      tt,
+      tt,
+      omega (arith, c.loop-line.invariant.2, ap length c.in-Some.ensures.steps, c.run_line.ensures.line),
+      λ v. c.run_line.ensures.stays (l.invariant.3 v),
+      λ v. onward_line Does (table c.args.store.now) (lines c.args.input.now) (table l.store) l.out.line _ c.in-Some.line.now _ _ _ (table c.run_line.new.store) _
+          c.in-Some.ensures.steps c.run_line.ensures.line (l.invariant.4 v) (c.in_ok-run_line.ensures.adds (l.invariant.3 v)),
+      onward_line (Asks g.S.Store.makes) c.args.store.now (lines c.args.input.now) l.store l.out.line _ c.in-Some.line.now _ _ _ c.run_line.new.store _
+          c.in-Some.ensures.steps c.run_line.ensures.line l.invariant.5 c.in_ok-run_line.ensures.made,
     )
 
-pub loop-i-preserved : goal.loop-i-preserved
-loop-i-preserved g c =
-    let bs = c.args.input.now in
-    let l = c.loop-i in
-    let table = g.S.Store.table in
-    let ends : get_or c.args.input.now c.loop-i.i 0 ≡ 10 = omega arith in (
-      omega arith,
-      omega arith,
-      λ v. c.run_line.ensures.stays (l.invariant.2 v),
-      λ v. onward_line (table c.args.store.now) (lines bs) (table l.store) l.number (lines_at l.start l.i bs) (between l.start l.i bs)
-          (lines_at (l.i + 1) (l.i + 1) bs) (vec_items l.out) (vec_items c.run_line.new.out) (table c.run_line.new.store)
-          (line_ends bs l.start l.i (omega arith) ends) (l.invariant.3 v) (c.in_ok-run_line.ensures.adds (l.invariant.2 v)),
-    )
+pub returns-in_err-run_line-clause-stays : goal.returns-in_err-run_line-clause-stays
+returns-in_err-run_line-clause-stays g c v = c.run_line.ensures.stays (c.loop-line.invariant.3 v)
 
-pub returns-then-start-input : goal.returns-then-start-input
-returns-then-start-input g c =
-    let bs = c.args.input.now in
-    let l = c.loop-i in
-    let table = g.S.Store.table in
-    record {
-      prints = λ v. onward_last (table c.args.store.now) (lines bs) (table l.store) l.number (lines_at l.start l.i bs) (vec_items l.out)
-          (no_line bs l.start l.i (omega arith) (omega arith)) (l.invariant.3 v);
-      stays = l.invariant.2;
-    }
+pub returns-clause-prints : goal.returns-clause-prints
+returns-clause-prints g c v = onward_last Does _ _ _ _ _ _ c.in-None.ensures.steps.0 (c.loop-line.invariant.4 v)
 
-pub returns : goal.returns
-returns g c =
-    let bs = c.args.input.now in
-    let l = c.loop-i in
-    let table = g.S.Store.table in
-    let after = c.run_line-2.new in
-    let all : g.S.Store.valid c.args.store.now →
-    Onward (g.S.Store.table c.args.store.now) (lines c.args.input.now) (g.S.Store.table c.run_line-2.new.store) (c.loop-i.number + 1) [] (vec_items c.run_line-2.new.out) =
-    λ v. onward_line (table c.args.store.now) (lines bs) (table l.store) l.number (lines_at l.start l.i bs) (between l.start (length bs) bs)
-    [] (vec_items l.out) (vec_items after.out) (table after.store)
-    (last_line bs l.start l.i (omega arith) (omega arith)) (l.invariant.3 v) (c.in_ok-run_line-2.ensures.adds (l.invariant.2 v)) in
-    record {
-      prints = λ v. onward_last (table c.args.store.now) (lines bs) (table after.store) (l.number + 1) [] (vec_items after.out) refl (all v);
-      stays = λ v. c.run_line-2.ensures.stays (l.invariant.2 v);
-    }
+pub returns-clause-made : goal.returns-clause-made
+returns-clause-made g c = onward_last (Asks g.S.Store.makes) _ _ _ _ _ _ c.in-None.ensures.steps.0 c.loop-line.invariant.5

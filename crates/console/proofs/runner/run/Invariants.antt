@@ -1,12 +1,15 @@
-use Rattle.std.proofs.Common.{◌+◌, ◌≤◌, vec_items}
+use Rattle.std.proofs.Common.{◌≡◌, ◌+◌, length, vec_items}
 use Rattle.console.specs.Lines.{lines}
-use Rattle.console.proofs.Progress.{Onward, lines_at}
+use Rattle.console.specs.Running.{Does, Asks}
+use Rattle.console.proofs.Progress.{Onward}
 use Rattle.console.proofs.runner.run.Given as goal
 
-abbrev pub invariant-loop-i : goal.invariant-loop-i
-invariant-loop-i g l =
-    (l.start ≤ l.i)
-    × (l.number ≤ l.i + 1)
+abbrev pub invariant-loop-line : goal.invariant-loop-line
+invariant-loop-line g l =
+    (goal.iterator-loop-line g).can_next l.line-iterator
+    × (goal.iterator-loop-line g).is_finite l.line-iterator
+    × (l.out.line + length (lines l.line-iterator.0.now) ≡ 1 + length (lines l.input))
     × (g.S.Store.valid l.initial.store → g.S.Store.valid l.store)
     × (g.S.Store.valid l.initial.store →
-    Onward (g.S.Store.table l.initial.store) (lines l.input) (g.S.Store.table l.store) l.number (lines_at l.start l.i l.input) (vec_items l.out))
+    Onward Does (g.S.Store.table l.initial.store) (lines l.input) (g.S.Store.table l.store) l.out.line (lines l.line-iterator.0.now) (vec_items l.out.bytes))
+    × Onward (Asks g.S.Store.makes) l.initial.store (lines l.input) l.store l.out.line (lines l.line-iterator.0.now) (vec_items l.out.bytes)

@@ -1,13 +1,10 @@
-use Rattle.std.proofs.Common.{sym, ap, ◌∙◌, arith, rules}
+use Rattle.std.proofs.Common.{sym, ap, ◌∙◌, arith}
+use Rattle.std.proofs.lemmas.Bool.Decides.{nat_tests}
 use Rattle.std.proofs.lemmas.List.{take_rest}
 use Rattle.console.specs.Commands.{said, said_write, number_of, read_of}
 use Rattle.console.specs.Told.{command_told}
 use Rattle.console.proofs.Lines.{said_r, said_w, spelling}
 use Rattle.console.proofs.command.Command.parse.Goals as goal
-
-pub returns-then-line-lt2 : goal.returns-then-line-lt2
-unfolding said
-returns-then-line-lt2 c = record { command = search rules; law = spelling _ _ (search rules) }
 
 pub returns-in_err-parse_number-in-114 : goal.returns-in_err-parse_number-in-114
 returns-in_err-parse_number-in-114 c =
@@ -29,4 +26,4 @@ returns-in-119 c =
 
 pub returns-in_default : goal.returns-in_default
 unfolding said
-returns-in_default c = record { command = search rules; law = spelling _ _ (search rules) }
+returns-in_default c = record { command = grind (arith, nat_tests); law = spelling _ _ (grind (arith, nat_tests)) }

@@ -13,5 +13,6 @@ returns g c =
       after = λ way. layer_written (layer_of g.D.Device.flash c.args.self.now) way n bs c.write.result (layer_of g.D.Device.flash c.write.new.self) done.reply done.after;
       stays = λ way. (way.0, way.1 ++ (write n bs ∷ []), (done.law way.0 way.1 way.2).0);
       reply = done.reply;
+      made = record { reply = done.reply; after = done.after };
       layer = done.after;
     }
