@@ -10,19 +10,12 @@ ghost use Rattle.store.specs.Layered.{layer_table};
 ghost use Rattle.store.specs.Meaning.{Table};
 
 use chips::blank::{NoImage, blank_image};
-use chips::module::{LEFT, RIGHT, two_chips};
+use chips::module::{LEFT, PLAN, RIGHT, two_chips};
 use console::respond::respond;
-use fast::fit::Plan;
 use fast::layer::Layer;
 use flash::chip::ImageChip;
 use flash::device::Device;
 use std::alloc::{AllocError, Global};
-
-const PLAN: Plan = Plan {
-    logical: 4,
-    random: 2,
-    first_stamp: 1,
-};
 
 // What the lines print on the layer that format gives, with 4 logical blocks, 2 random log blocks and first stamp 1.
 pub fn respond_fresh<D: Device + Drop>(

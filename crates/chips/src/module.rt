@@ -5,6 +5,7 @@ ghost use Rattle.std.specs.Prelude.{◌≡◌};
 ghost use Rattle.flash.specs.Joined.{joined};
 ghost use Rattle.flash.specs.Windowed.{windowed};
 
+use fast::fit::Plan;
 use flash::device::Device;
 use flash::join::Join;
 use flash::numbers::Block;
@@ -19,6 +20,13 @@ pub const LEFT: Geometry = Geometry {
 };
 
 pub const RIGHT: Geometry = Geometry { blocks: 5, ..LEFT };
+
+// The layer that the programs lay over it, or over a device of as many blocks.
+pub const PLAN: Plan = Plan {
+    logical: 4,
+    random: 2,
+    first_stamp: 1,
+};
 
 // One device and 4 blocks, from block 1 on, of another, as one.
 pub fn two_chips<First: Device, Second: Device>(

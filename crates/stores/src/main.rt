@@ -6,8 +6,8 @@
 #![tactic(auto)]
 
 use chips::blank::blank_image;
+use chips::module::PLAN;
 use console::respond::{MOST_BYTES, respond};
-use fast::fit::Plan;
 use fast::layer::Layer;
 use flash::chip::ImageChip;
 use image::shape::Geometry;
@@ -21,12 +21,6 @@ const GEOMETRY: Geometry = Geometry {
     blocks: 8,
     pages: 4,
     life: 100,
-};
-
-const PLAN: Plan = Plan {
-    logical: 4,
-    random: 2,
-    first_stamp: 1,
 };
 
 fn print_run<S: Store>(

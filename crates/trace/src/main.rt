@@ -9,8 +9,7 @@
 
 use anyhow::Context;
 use chips::blank::blank_image;
-use chips::module::{LEFT, RIGHT, two_chips};
-use fast::fit::Plan;
+use chips::module::{LEFT, PLAN, RIGHT, two_chips};
 use fast::layer::Layer;
 use flash::chip::ImageChip;
 use flash::device::{Device, SECTOR_SIZE};
@@ -28,12 +27,6 @@ const WRITES: [u32; 36] = [
     0, 1, 2, 3, 4, 5, 6, 7, 8, 9, 10, 11, 12, 13, 14, 15, 4, 5, 9, 7, 8, 9, 9, 0, 1, 2, 3, 12, 5,
     6, 9, 10, 11, 1, 2, 3,
 ];
-
-const PLAN: Plan = Plan {
-    logical: 4,
-    random: 2,
-    first_stamp: 1,
-};
 
 fn write_all<D: Device>(layer: &mut Layer<D>) -> anyhow::Result<()> {
     for n in WRITES {
