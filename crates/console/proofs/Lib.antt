@@ -1,4 +1,3 @@
 pub mod Numerals
 pub mod Lines
-pub mod Texts
 pub mod Progress

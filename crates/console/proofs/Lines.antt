@@ -1,6 +1,7 @@
 -- Lines taken apart as the parser does it.
-use Rattle.std.proofs.Common.{◌≡◌, ℕ, suc, ◌+◌, ◌<◌, ◌≤◌, Bool, true, false, ◌⊎◌, List, [], ◌∷◌, ◌++◌, length, get_or, take, drop, Some, None, Option, sym, refl, ap, ◌∙◌, subst, inl, inr, ⊎_elim, arith, length-append, take-append-drop, drop-drop, take_at, drop_at, le-ltb, lt-ltb}
+use Rattle.std.proofs.Common.{◌≡◌, ℕ, suc, ◌+◌, ◌<◌, ◌≤◌, Bool, true, ◌⊎◌, List, [], ◌∷◌, ◌++◌, length, get_or, take, drop, Some, None, Option, sym, refl, ap, ◌∙◌, subst, inl, inr, ⊎_elim, arith, length-append, take-append-drop, drop-drop, take_at, drop_at, le-ltb, lt-ltb}
 use Rattle.std.proofs.lemmas.List.{drop_more}
+use Rattle.std.proofs.lemmas.List.Sums.{prefix_len_stops}
 use Rattle.std.proofs.lemmas.Bool.{cases_eq, cases_lt, cond_both}
 use Rattle.std.proofs.lemmas.Bool.Decides.{nat_tests}
 use Rattle.std.specs.List.{prefix_len, AllByRecursion}
@@ -11,15 +12,15 @@ module _ (rest : List ℕ) (k : ℕ) (at : k ≡ prefix_len no_space rest) where
   no_write : length rest ≤ k → said_write rest ≡ None
   no_write h = let t = le-ltb (prefix_len no_space rest) (length rest) (omega arith) in rw t
 
-  pub is_write : k < length rest → (x : Option ℕ) → x ≡ number_of (take k rest) → said_write rest ≡ write_of x (drop (k + 1) rest)
+  is_write : k < length rest → (x : Option ℕ) → x ≡ number_of (take k rest) → said_write rest ≡ write_of x (drop (k + 1) rest)
   is_write h x e =
       let t = lt-ltb (prefix_len no_space rest) (length rest) (omega arith) in
       rw t (ap (λ j. write_of (number_of (take j rest)) (drop (j + 1) rest)) (sym at) ∙ ap (λ z. write_of z (drop (k + 1) rest)) (sym e))
 
-pub short_text : (n : ℕ) (text : List ℕ) → length text ≤ 512 → write_of (Some n) text ≡ Some (says_write n text)
+short_text : (n : ℕ) (text : List ℕ) → length text ≤ 512 → write_of (Some n) text ≡ Some (says_write n text)
 short_text n text h = grind (arith, nat_tests)
 
-pub long_text : (n : ℕ) (text : List ℕ) → 512 < length text → write_of (Some n) text ≡ None
+long_text : (n : ℕ) (text : List ℕ) → 512 < length text → write_of (Some n) text ≡ None
 long_text n text h = grind (arith, nat_tests)
 
 -- a line by its first two bytes
@@ -63,11 +64,6 @@ leading_stop (d ∷ ds) text h =
     let other : no_space d ≡ true = let e = h.0 in grind (arith, nat_tests) in
     let r = leading_stop ds text h.1 in
     rw (other, r) (omega arith)
-
-stops : {X : Type 0} (p : X → Bool) (xs : List X) (d : X) → prefix_len p xs < length xs → p (get_or xs (prefix_len p xs) d) ≡ false
-stops p [] d h = absurd (omega arith)
-stops p (x ∷ xs) d h = cond_both (p x) (1 + prefix_len p xs) 0 (λ n. n < suc (length xs) → p (get_or (x ∷ xs) n d) ≡ false)
-    (λ yes e. let more : 1 + prefix_len p xs ≡ suc (prefix_len p xs) = omega arith in rw more (stops p xs d (omega arith))) (λ none e. none) h
 
 -- the parts of a line that says something
 abbrev Parts : List ℕ → Said → Type 0
@@ -117,7 +113,7 @@ from_rest rest y h = ⊎_elim
     (λ inside.
     let w = from_write (number_of (take (prefix_len no_space rest) rest)) (drop (prefix_len no_space rest + 1) rest) y
     (sym (is_write rest (prefix_len no_space rest) refl inside (number_of (take (prefix_len no_space rest) rest)) refl) ∙ h) in
-    let stop = stops no_space rest 0 inside in
+    let stop = prefix_len_stops no_space rest 0 inside in
     let space : get_or rest (prefix_len no_space rest) 0 ≡ 32 = grind (arith, nat_tests) in
     let d = drop_more rest (prefix_len no_space rest) 0 inside in
     let whole = take-append-drop (prefix_len no_space rest) rest in (

@@ -57,9 +57,6 @@ pub record Onward {S : Type 0} (does : S → ℕ → Option Said → List ℕ �
   pub whole : (rest : List ℕ) (y : S) → ByLine does x k left rest y → ByLine does x₀ 1 all (out ++ rest) y
 
 module _ {S : Type 0} (does : S → ℕ → Option Said → List ℕ → S → Type 0) (x₀ : S) (all : List (List ℕ)) where
-  pub onward_first : (left : List (List ℕ)) (out : List ℕ) → left ≡ all → out ≡ [] → Onward does x₀ all x₀ 1 left out
-  onward_first left out e f = rw (e, f) (record { whole = λ rest y h. h })
-
   pub onward_line : (x : S) (k : ℕ) (left : List (List ℕ)) (l : List ℕ) (ls : List (List ℕ)) (before after : List ℕ) (y : S) (m : ℕ) → left ≡ l ∷ ls → m ≡ k →
       Onward does x₀ all x k left before → Adds does x k (said l) before after y → Onward does x₀ all y (m + 1) ls after
   onward_line x k left l ls before after y m e f h a =

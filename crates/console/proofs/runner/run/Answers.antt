@@ -1,13 +1,8 @@
-use Rattle.std.proofs.Common.{◌+◌, length, ap, arith}
+use Rattle.std.proofs.Common.{length, ap, arith}
 use Rattle.console.specs.Lines.{lines}
 use Rattle.console.specs.Running.{Does, Asks}
-use Rattle.console.proofs.Progress.{onward_first, onward_line, onward_last, few}
+use Rattle.console.proofs.Progress.{onward_line, onward_last, few}
 use Rattle.console.proofs.runner.run.Goals as goal
-
-pub loop-line-init : goal.loop-line-init
-loop-line-init g c =
-    let all = ap (λ it. lines it.0.now) c.into_iter-line-iterator.ensures.into_iter_gives in
-    (tt, tt, ap (λ ls. 1 + length ls) all, λ v. v, λ v. onward_first Does _ _ _ _ all c.new.ensures.items, onward_first (Asks g.S.Store.makes) _ _ _ _ all c.new.ensures.items)
 
 pub overflow_add-out : goal.overflow_add-out
 overflow_add-out g c =
@@ -26,9 +21,6 @@ loop-line-preserved g c =
       onward_line (Asks g.S.Store.makes) c.args.store.now (lines c.args.input.now) l.store l.out.line _ c.in-Some.line.now _ _ _ c.run_line.new.store _
           c.in-Some.ensures.steps c.run_line.ensures.line l.invariant.5 c.in_ok-run_line.ensures.made,
     )
-
-pub returns-in_err-run_line-clause-stays : goal.returns-in_err-run_line-clause-stays
-returns-in_err-run_line-clause-stays g c v = c.run_line.ensures.stays (c.loop-line.invariant.3 v)
 
 pub returns-clause-prints : goal.returns-clause-prints
 returns-clause-prints g c v = onward_last Does _ _ _ _ _ _ c.in-None.ensures.steps.0 (c.loop-line.invariant.4 v)

@@ -24,6 +24,6 @@ returns-in-119 c =
     let e = c.parse_write.ensures ∙ ap said_write (take_rest c.args.line.now 2) ∙ sym (said_w c.args.line.now (omega arith) (omega arith) (omega arith)) in
     record { command = e; law = spelling _ _ e }
 
-pub returns-in_default : goal.returns-in_default
+pub returns-in_default-clause-command : goal.returns-in_default-clause-command
 unfolding said
-returns-in_default c = record { command = grind (arith, nat_tests); law = spelling _ _ (grind (arith, nat_tests)) }
+returns-in_default-clause-command c = grind (arith, nat_tests)
