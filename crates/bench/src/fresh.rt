@@ -10,9 +10,8 @@ ghost use Rattle.store.specs.Layered.{layer_table};
 ghost use Rattle.store.specs.Meaning.{Table};
 
 use chips::blank::{NoImage, blank_image};
-use chips::module::{LEFT, PLAN, RIGHT, two_chips};
+use chips::module::{LEFT, PLAN, RIGHT, layer_over, two_chips};
 use console::respond::respond;
-use fast::layer::Layer;
 use flash::chip::ImageChip;
 use flash::device::Device;
 use std::alloc::{AllocError, Global};
@@ -26,7 +25,7 @@ pub fn respond_fresh<D: Device + Drop>(
     ensures prints { IfOk result (λ out. length input.now ≤ 65536 → (u : Table) × Prints (layer_table (format (started (D.Device.flash device) 4 2 1))) 1 (lines input.now) out.items u) }
     ensures refuses { IfOk result (λ out. 65536 < length input.now → out.items ≡ codes "too long" ++ (10 ∷ [])) }
 {
-    let mut layer = Layer::format(heap, device, PLAN).map_err(|(_, error)| error)?;
+    let mut layer = layer_over(heap, device, PLAN)?;
     respond(heap, &mut layer, input)
 }
 

@@ -1,4 +1,4 @@
-// Blank chips in memory, and the small module of two chips that the programs work on.
+// Blank chips in memory, the small module of two chips that the programs work on, and the layer that they lay over it.
 
 #![tactic(auto)]
 

@@ -78,19 +78,16 @@ impl Output {
     {
         match answer {
             Err(refusal) => self.refused(refusal.number()),
-            Ok((erases, copies)) => {
-                let n = sector.0;
-                self.push(format_args!("w {n} {erases} {copies}\n"))
-            }
+            Ok((erases, copies)) => self.push(format_args!("w {sector} {erases} {copies}\n")),
         }
     }
 
     // `r N =` with the bytes before the first zero
-    fn bytes(&mut self, n: u32, buffer: &[u8]) -> Result<(), AllocError>
-        ensures text { OnOk result (self.new.bytes.items ≡ self.old.bytes.items ++ bytes_line n buffer.now) }
+    fn bytes(&mut self, sector: Sector, buffer: &[u8]) -> Result<(), AllocError>
+        ensures text { OnOk result (self.new.bytes.items ≡ self.old.bytes.items ++ bytes_line sector.0 buffer.now) }
         ensures line { self.new.line ≡ self.old.line }
     {
-        self.push(format_args!("r {n} ="))?;
+        self.push(format_args!("r {sector} ="))?;
         self.bytes.extend_from_slice(cut(buffer))?;
         self.bytes.push(b'\n')?;
         Ok(())
@@ -106,11 +103,10 @@ impl Output {
         ensures text { OnOk result (self.new.bytes.items ≡ self.old.bytes.items ++ reply_line self.old.line sector.0 (read_told answer buffer.now)) }
         ensures line { self.new.line ≡ self.old.line }
     {
-        let n = sector.0;
         match answer {
             Err(refusal) => self.refused(refusal.number()),
-            Ok(Found::NeverWritten) => self.push(format_args!("r {n} -\n")),
-            Ok(Found::Bytes) => self.bytes(n, buffer),
+            Ok(Found::NeverWritten) => self.push(format_args!("r {sector} -\n")),
+            Ok(Found::Bytes) => self.bytes(sector, buffer),
         }
     }
 }

@@ -2,7 +2,7 @@
 // without the module's types.
 
 use chips::blank::blank_image;
-use chips::module::{LEFT, RIGHT, two_chips};
+use chips::module::{LEFT, RIGHT, layer_over, two_chips};
 use fast::fit::Plan;
 use fast::layer::{Found, Layer};
 use fast::refusal::Refusal;
@@ -151,7 +151,7 @@ fn on_module<F: FnOnce(&mut Layer<Join<ImageChip, Window<ImageChip>>>) -> Result
         random: 2,
         first_stamp,
     };
-    let mut layer = Layer::format(heap, device, plan).map_err(|(_, error)| error)?;
+    let mut layer = layer_over(heap, device, plan)?;
     case(&mut layer)?;
     drop(layer);
     Ok(left == before)

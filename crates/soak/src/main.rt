@@ -4,8 +4,8 @@
 
 #![tactic(auto)]
 
-use anyhow::Context;
 use chips::blank::{NoImage, blank_image};
+use chips::module::layer_over;
 use fast::fit::Plan;
 use fast::layer::{Found, Layer};
 use flash::chip::ImageChip;
@@ -193,12 +193,6 @@ fn blank_chip(heap: Global, blocks: u32, pages: u32) -> Result<Vec<u8>, NoImage>
     blank_image(heap, geometry)
 }
 
-fn format<D: Device + Drop>(heap: Global, device: D, plan: Plan) -> anyhow::Result<Layer<D>> {
-    Layer::format(heap, device, plan)
-        .map_err(|(_, error)| error)
-        .context("no memory for the tables")
-}
-
 fn run(rt: &HostRuntime, shape: Shape) -> anyhow::Result<()> {
     let Shape {
         blocks,
@@ -214,7 +208,7 @@ fn run(rt: &HostRuntime, shape: Shape) -> anyhow::Result<()> {
         random,
         first_stamp: 1,
     };
-    let mut layer = format(rt.alloc(), device, plan)?;
+    let mut layer = layer_over(rt.alloc(), device, plan)?;
     let sectors = layer.sectors();
     let mut ledger = vec![in rt.alloc(); None; sectors as usize]?;
     let Tally { refused, wrong, .. } = soak(&mut layer, &mut ledger);

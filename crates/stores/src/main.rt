@@ -6,9 +6,8 @@
 #![tactic(auto)]
 
 use chips::blank::blank_image;
-use chips::module::PLAN;
+use chips::module::{PLAN, layer_over};
 use console::respond::{MOST_BYTES, respond};
-use fast::layer::Layer;
 use flash::chip::ImageChip;
 use image::shape::Geometry;
 use input::read_input;
@@ -42,7 +41,7 @@ fn run_plain(rt: &HostRuntime, input: &[u8]) -> anyhow::Result<()> {
 
 fn run_spread(rt: &HostRuntime, input: &[u8]) -> anyhow::Result<()> {
     let mut image = blank_image(rt.alloc(), GEOMETRY)?;
-    let layer = Layer::format(rt.alloc(), ImageChip::new(&mut image), PLAN).map_err(|(_, error)| error)?;
+    let layer = layer_over(rt.alloc(), ImageChip::new(&mut image), PLAN)?;
     let mut bytes = vec![in rt.alloc(); 0u8; 8 * SLOT_SIZE]?;
     let mut spread = Spread {
         left: PlainStore::new(&mut bytes),

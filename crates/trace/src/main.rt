@@ -9,7 +9,7 @@
 
 use anyhow::Context;
 use chips::blank::blank_image;
-use chips::module::{LEFT, PLAN, RIGHT, two_chips};
+use chips::module::{LEFT, PLAN, RIGHT, layer_over, two_chips};
 use fast::layer::Layer;
 use flash::chip::ImageChip;
 use flash::device::{Device, SECTOR_SIZE};
@@ -50,9 +50,7 @@ fn main(rt: HostRuntime) -> anyhow::Result<()> {
     let mut right = blank_image(heap, RIGHT)?;
     let module = two_chips(ImageChip::new(&mut left), ImageChip::new(&mut right));
     let device = Recorder::new(module, Log::new(heap)?);
-    let mut layer = Layer::format(heap, device, PLAN)
-        .map_err(|(_, error)| error)
-        .context("no memory for the tables")?;
+    let mut layer = layer_over(heap, device, PLAN)?;
     write_all(&mut layer)?;
     print_all(&rt, layer.device().operations())
 }
