@@ -7,10 +7,9 @@ use Rattle.flash.specs.declared.numbers.Block.{Block}
 use Rattle.scheme.specs.Roles.{Event, taken_as_data, finished}
 use Rattle.scheme.specs.Steps.{Fresh, transfer, seen_of, merge, merge_free, merged, settle}
 use Rattle.scheme.specs.Tables.{Tables, owned}
-use Rattle.scheme.specs.Work.{State, Work, each, do_copy, do_program, put_page}
-use Rattle.fast.specs.Leaves.{at, Copied, Left, page_made, fresh_view}
+use Rattle.scheme.specs.Work.{State, Work, each, do_copy, do_program}
+use Rattle.fast.specs.Leaves.{at, Copied, Left}
 use Rattle.fast.specs.Views.{numbers, first_of, sw_view}
-use Rattle.fast.specs.declared.steps.Fresh as code
 use Rattle.fast.specs.declared.tables.sequential.Sw.{Sw}
 
 copy_tables : (x : Page) (to o : ℕ) (s : State) → (do_copy x to o s).after.tables ≡ s.tables
@@ -133,8 +132,3 @@ pub settles_free : (P : ℕ) (fresh : Option Fresh) (c : ℕ) (s : State) (f : F
     → Left (merge_free P fresh c s.tables.free (s.tables.data_block c ∷ []) s) f u e n → Left (settle P fresh c s) f u e n
 unfolding settle
 settles_free P fresh c s f u e n i left = rw (settle, i) left
-
--- the new page programmed
-pub carries_fresh : (P : ℕ) (q : Option code.Fresh) (x : code.Fresh) (c to o : ℕ) (s : State) (f : Flash) → q ≡ Some x → o ≡ x.offset.0
-    → f ≡ put_page s.flash to o (page_made x.page) → Copied (transfer P (fresh_view q) c to o s) f 0
-carries_fresh P q x c to o s f has here e = rw (has, transfer, eq-eqb o x.offset.0 here) (record { flash = e; copied = refl })

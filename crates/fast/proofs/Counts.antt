@@ -2,6 +2,7 @@
 use Rattle.std.proofs.Common.{◌≡◌, ℕ, zero, suc, ◌+◌, ◌/◌, ◌<◌, ◌≤◌, Bool, true, false, cond, eqb, ltb, ◌≢◌, List, [], ◌∷◌, ◌++◌, length, get_or, drop, set, Some, None, Option, sym, refl, ap, ◌∙◌, ap₂, inl, inr, append_assoc, arith}
 use mathlib.Core.Path.{fun_ext}
 use Rattle.std.proofs.lemmas.Bool.{cases_Bool, cases_eq, eq-eqb, ne_eqb, lt-ltb}
+use Rattle.std.proofs.lemmas.List.{map-append, drop-map, get_or-map}
 use Rattle.flash.specs.declared.numbers.Block.{Block}
 use Rattle.scheme.specs.Functions.{upd}
 use Rattle.scheme.specs.Roles.{Led, after, taken_as_data, taken_as_sequential, taken_as_random, finished, erased}
@@ -28,17 +29,13 @@ uses_front b [] h = absurd (omega arith)
 uses_front b (x ∷ xs) h = refl
 
 pub get_or_numbers : (xs : List Block) (i : ℕ) (x : Block) → i < length xs → x ≡ get_or xs i x → x.0 ≡ get_or (numbers xs) i 0
-get_or_numbers [] i x h e = absurd (omega arith)
-get_or_numbers (y ∷ xs) zero x h e = ap (λ (b : Block). b.0) e
-get_or_numbers (y ∷ xs) (suc i) x h e = get_or_numbers xs i x (omega arith) e
+get_or_numbers xs i x h e = ap (λ (b : Block). b.0) e ∙ sym (get_or-map (λ b. b.0) xs i x 0 h)
 
 pub numbers_push : (xs : List Block) (x : Block) → numbers (xs ++ (x ∷ [])) ≡ numbers xs ++ (x.0 ∷ [])
-numbers_push [] x = refl
-numbers_push (y ∷ xs) x = ap (λ ys. y.0 ∷ ys) (numbers_push xs x)
+numbers_push xs x = map-append (λ b. b.0) xs (x ∷ [])
 
 pub numbers_rest : (xs : List Block) → numbers (drop 1 xs) ≡ drop 1 (numbers xs)
-numbers_rest [] = refl
-numbers_rest (x ∷ xs) = refl
+numbers_rest xs = sym (drop-map (λ b. b.0) 1 xs)
 
 at_set : (xs : List Block) (i : ℕ) (x : Block) → i < length xs → get_or (numbers (set xs i x)) i 0 ≡ x.0
 at_set [] i x h = absurd (omega arith)

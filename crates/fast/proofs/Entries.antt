@@ -1,10 +1,10 @@
 -- The code's entries and the steps'.
-use Rattle.std.proofs.Common.{◌≡◌, ℕ, zero, suc, ◌+◌, ◌-◌, ◌*◌, ◌/◌, ◌%◌, ◌<◌, ◌≤◌, Bool, false, cond, eqb, ◌≢◌, List, [], ◌∷◌, ◌++◌, map, length, take, drop, Some, refl, ap, ◌∙◌, subst, ap₂, inl, inr, mul-le-mul_right, mod-lt, div-add-mod', add-one, position, arith}
+use Rattle.std.proofs.Common.{◌≡◌, ℕ, suc, ◌+◌, ◌-◌, ◌*◌, ◌/◌, ◌%◌, ◌<◌, ◌≤◌, Bool, false, cond, eqb, List, [], ◌∷◌, ◌++◌, map, length, take, drop, Some, sym, refl, ap, ◌∙◌, subst, ap₂, inl, inr, mul-le-mul_right, mod-lt, div-add-mod', add-one, position, arith}
 use lib.Seq.{take-append-le}
 use mathlib.Core.Path.{fun_ext}
 use Rattle.std.specs.List.{position_from}
 use Rattle.std.proofs.lemmas.Iterator.Adapters.{position_from-zero}
-use Rattle.std.proofs.lemmas.List.{take_all, drop_all, append-nil}
+use Rattle.std.proofs.lemmas.List.{take_all, drop_all, append-nil, map-append, drop-map, length-map}
 use Rattle.std.proofs.lemmas.Bool.{cases_Bool, cases_eq, cases_lt, eq-eqb, ne_eqb, lt-ltb, le-ltb, lt-leb, le-leb}
 use Rattle.scheme.specs.Place.{entry_of}
 use Rattle.scheme.specs.Tables.{stale_if, stale_all}
@@ -22,17 +22,6 @@ view_expired m k Stale = refl
 
 pub views_expired : (m k : ℕ) (es : List Entry) → entries_view (map (expired_entry m k) es) ≡ stale_all (in_run m k) (entries_view es)
 views_expired m k es = views_map (expired_entry m k) (in_run m k) (view_expired m k) es
-
--- a run of one sector
-pub run_one : (m : ℕ) → in_run m 1 ≡ (λ n. eqb n m)
-run_one m =
-    fun_ext (λ n. elim (cases_lt n m) [
-      | inl h ↦ let d : n ≢ m = omega arith in rw (lt-leb m n h, ne_eqb n m d) refl
-      | inr h ↦ elim (cases_eq n m) [
-        | inl e ↦ let k : n - m < 1 = omega arith in rw (le-leb m n h, lt-ltb (n - m) 1 k, eq-eqb n m e) refl
-        | inr d ↦ let k : 1 ≤ n - m = omega arith in rw (le-leb m n h, le-ltb (n - m) 1 k, ne_eqb n m d) refl
-      ]
-    ])
 
 -- the run of the sectors of a logical block
 pub run_block : (c P : ℕ) → 0 < P → in_run (c * P) P ≡ (λ n. eqb (n / P) c)
@@ -81,14 +70,10 @@ pub taken_back : {A : Type 0} (xs ys : List A) (n : ℕ) → length xs ≡ n →
 taken_back xs ys n h = let e : length xs ≤ length xs = omega arith in subst (λ m. take m (xs ++ ys) ≡ xs) h (rw (take-append-le, take_all) refl)
 
 pub views_push : (es : List Entry) (e : Entry) → entries_view (es ++ (e ∷ [])) ≡ entries_view es ++ (entry_view e ∷ [])
-views_push [] e = refl
-views_push (x ∷ es) e = ap (λ xs. entry_view x ∷ xs) (views_push es e)
+views_push es e = map-append entry_view es (e ∷ [])
 
 pub views_drop : (n : ℕ) (es : List Entry) → entries_view (drop n es) ≡ drop n (entries_view es)
-views_drop zero es = refl
-views_drop (suc n) [] = refl
-views_drop (suc n) (e ∷ es) = views_drop n es
+views_drop n es = sym (drop-map entry_view n es)
 
 pub length_views : (es : List Entry) → length (entries_view es) ≡ length es
-length_views [] = refl
-length_views (e ∷ es) = ap suc (length_views es)
+length_views es = length-map es entry_view

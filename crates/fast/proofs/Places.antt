@@ -1,13 +1,7 @@
 -- Where a sector is read, by what the code finds.
-use Rattle.std.proofs.Common.{◌≡◌, ℕ, ◌+◌, ◌*◌, true, false, ◌&&◌, eqb, ltb, Some, None, sym, refl}
-use Rattle.scheme.specs.Place.{place, behind, entry_of, entry_place}
+use Rattle.std.proofs.Common.{◌≡◌, ℕ, true, false, ◌&&◌, eqb, ltb, Some, None, refl}
+use Rattle.scheme.specs.Place.{place, behind}
 use Rattle.scheme.specs.Tables.{Tables, Sequential}
-
-pub behind_random : (P : ℕ) (t : Tables) (c o i : ℕ) → Some i ≡ entry_of (c * P + o) 0 t.entries → entry_place P t.logs i ≡ behind P t c o
-behind_random P t c o i e = rw (sym e) refl
-
-pub behind_data : (P : ℕ) (t : Tables) (c o : ℕ) → None ≡ entry_of (c * P + o) 0 t.entries → record { block = t.data_block c; page = o } ≡ behind P t c o
-behind_data P t c o e = rw (sym e) refl
 
 pub place_none : (P : ℕ) (t : Tables) (c o : ℕ) → t.sequential ≡ None → behind P t c o ≡ place P t c o
 unfolding place

@@ -1,6 +1,7 @@
 -- The steps of overwrites, by what their parts leave.
-use Rattle.std.proofs.Common.{◌≡◌, ℕ, suc, ◌+◌, ◌*◌, ◌/◌, ◌%◌, ◌<◌, ◌≤◌, eqb, ◌≢◌, List, [], ◌∷◌, ◌++◌, length, get_or, drop, Some, sym, refl, ap, subst, ap₂, subst₂, arith}
+use Rattle.std.proofs.Common.{◌≡◌, ℕ, ◌+◌, ◌*◌, ◌/◌, ◌%◌, ◌<◌, ◌≤◌, eqb, ◌≢◌, List, [], ◌∷◌, ◌++◌, length, get_or, drop, Some, sym, refl, ap, subst, ap₂, subst₂, arith}
 use Rattle.std.proofs.lemmas.Bool.{eq-eqb, ne_eqb, lt-ltb, le-ltb}
+use Rattle.std.proofs.lemmas.List.{length-map}
 use Rattle.flash.specs.Calls.{erased}
 use Rattle.flash.specs.Meaning.{Flash, Page}
 use Rattle.flash.specs.declared.numbers.Block.{Block}
@@ -12,8 +13,7 @@ use Rattle.fast.specs.Views.{numbers}
 use Rattle.fast.proofs.Visited.{left_then}
 
 pub length_numbers : (xs : List Block) → length (numbers xs) ≡ length xs
-length_numbers [] = refl
-length_numbers (x ∷ xs) = ap suc (length_numbers xs)
+length_numbers xs = length-map xs (λ b. b.0)
 
 -- one step after another, the counts given
 pub left_both : (w : Work) (g : State → Work) (d f : Flash) (t u : Tables) (e n a b p q : ℕ) → Left w d t e n → Left (g (at d t)) f u a b → e + a ≡ p → n + b ≡ q → Left (w then g) f u p q
@@ -28,12 +28,6 @@ pub reclaimed : (P : ℕ) (s : State) (d f : Flash) (t u : Tables) (e n : ℕ) �
     → u ≡ with_random (drop 1 t.logs) (drop P t.entries) (with_free (t.free ++ (get_or t.logs 0 0 ∷ [])) t) → f ≡ erased d (get_or t.logs 0 0) → Left (reclaim P s) f u (e + 1) n
 unfolding reclaim
 reclaimed P s d f t u e n left h i j = left_both (each (visit P) 0 P s) (λ s. retire P s.tables.logs s) d f t u e n 1 0 (e + 1) n left (retires P t.logs d f t u h i j) refl (omega arith)
-
-pub thin_already : (P R : ℕ) (f : Flash) (t : Tables) → length t.logs < R → Left (thinned P R (at f t)) f t 0 0
-thin_already P R f t h = rw (thinned, lt-ltb (length t.logs) R h) (record { state = refl; erases = refl; copies = refl })
-
-pub thin_now : (P R : ℕ) (s : State) (f : Flash) (u : Tables) (e n : ℕ) → R ≤ length s.tables.logs → Left (reclaim P s) f u e n → Left (thinned P R s) f u e n
-thin_now P R s f u e n h left = rw (thinned, le-ltb (length s.tables.logs) R h) left
 
 takes_log : (P : ℕ) (fs : List ℕ) (f : Flash) (t u : Tables) → 0 < length fs → u ≡ with_random (t.logs ++ (get_or fs 0 0 ∷ [])) t.entries (with_free (drop 1 fs) t) → Left (take_log P fs (at f t)) f u 0 0
 takes_log P [] f t u h i = absurd (omega arith)

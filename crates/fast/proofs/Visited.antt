@@ -1,8 +1,8 @@
 -- The visit of an entry, and the loop over the victim's entries.
-use Rattle.std.proofs.Common.{◌≡◌, ℕ, zero, suc, ◌+◌, ◌*◌, ◌/◌, ◌<◌, ◌≤◌, cond, ltb, List, [], ◌∷◌, length, get_or, None, sym, refl, ap, ◌∙◌, subst, ap₂, inl, inr, div-lt_iff_lt-mul, add-one, arith}
+use Rattle.std.proofs.Common.{◌≡◌, ℕ, zero, suc, ◌+◌, ◌*◌, ◌/◌, ◌<◌, ◌≤◌, cond, ltb, List, [], ◌∷◌, length, get_or, sym, refl, ap, ◌∙◌, subst, ap₂, inl, inr, div-lt_iff_lt-mul, add-one, arith}
 use Rattle.std.proofs.lemmas.Bool.{cases_Bool, eq-eqb, ltb-true}
+use Rattle.std.proofs.lemmas.List.{get_or-map}
 use Rattle.flash.specs.Meaning.{Flash}
-use Rattle.scheme.specs.Steps.{visit, settle}
 use Rattle.scheme.specs.Tables as spec
 use Rattle.scheme.specs.Tables.{Tables, live, stale}
 use Rattle.scheme.specs.Work.{State, Work, each, ◌then◌}
@@ -12,12 +12,7 @@ use Rattle.fast.specs.Views.{entry_view, entries_view}
 use Rattle.fast.specs.declared.tables.random.Entry.{Entry}
 
 pub view_at : (es : List Entry) (i : ℕ) (x y : Entry) → i < length es → x ≡ get_or es i x → x ≡ y → get_or (entries_view es) i stale ≡ entry_view y
-view_at es i x y h e z = go es i h e ∙ ap entry_view z
-  where
-    go : (es : List Entry) (i : ℕ) → i < length es → x ≡ get_or es i x → get_or (entries_view es) i stale ≡ entry_view x
-    go [] i h e = absurd (omega arith)
-    go (w ∷ es) zero h e = ap entry_view (sym e)
-    go (w ∷ es) (suc i) h e = go es i (omega arith) e
+view_at es i x y h e z = get_or-map entry_view es i x stale h ∙ ap entry_view (sym e ∙ z)
 
 live_at : (es : List spec.Entry) (i n : ℕ) → get_or es i stale ≡ live n → 1 ≤ live_entries n es
 live_at [] i n e = let z : ◌≡◌ {A = ℕ} 0 1 = cc in absurd (omega arith)
@@ -34,12 +29,6 @@ live_known P L es i n pos one e =
       | inl h ↦ let k : n < L * P = ltb-true n (L * P) h in (div-lt_iff_lt-mul pos).1 k
       | inr h ↦ let z : cond {A = ℕ} (ltb n (L * P)) 1 0 ≡ 0 = ap (λ b. cond {A = ℕ} b 1 0) h in absurd (omega (arith, one n))
     ]
-
-pub visits_live : (P i : ℕ) (s : State) (n : ℕ) (f : Flash) (u : Tables) (e k : ℕ) → get_or s.tables.entries i stale ≡ live n → Left (settle P None (n / P) s) f u e k → Left (visit P i s) f u e k
-visits_live P i s n f u e k h left = rw (visit, h) left
-
-pub visits_stale : (P i : ℕ) (f : Flash) (t : Tables) → get_or t.entries i stale ≡ stale → Left (visit P i (at f t)) f t 0 0
-visits_stale P i f t h = rw (visit, h) (record { state = refl; erases = refl; copies = refl })
 
 -- the loop
 pub each_none : (g : ℕ → State → Work) (f : Flash) (t : Tables) → Left (each g 0 0 (at f t)) f t 0 0

@@ -4,7 +4,7 @@
 // need: a data block for each logical block, the random log blocks, the sequential log block, and one free block to merge into.
 
 ghost use Rattle.std.specs.Prelude.{◌≡◌, ◌+◌, Some, nat_le};
-ghost use Rattle.scheme.specs.Runs.{within, geometry_fits, fit};
+ghost use Rattle.scheme.specs.Runs.{geometry_fits, fit};
 ghost use Rattle.fast.specs.Told.{unfit_number, unfit_text, fit_told};
 
 use crate::wear::worn;
@@ -48,12 +48,6 @@ pub struct Plan {
     pub first_stamp: u32,
 }
 
-fn between(low: u32, n: u32, high: u32) -> bool
-    ensures { result ≡ within low n high }
-{
-    low <= n && n <= high
-}
-
 // Whether the blocks suffice. The sum is taken in 64 bits, for the arguments may be any numbers.
 fn has_room(blocks: u32, logical: u32, random: u32) -> bool
     ensures { result ≡ nat_le (logical + random + 2) blocks }
@@ -64,11 +58,11 @@ fn has_room(blocks: u32, logical: u32, random: u32) -> bool
 fn geometry_fits<D: Device>(device: &D, plan: Plan) -> bool
     ensures { result ≡ geometry_fits (D.Device.flash device.now) plan.logical plan.random }
 {
-    between(2, device.pages(), 32)
+    (2..=32).contains(&device.pages())
         && device.blocks() <= 512
-        && between(1, device.life(), 100_000)
-        && between(1, plan.logical, 480)
-        && between(1, plan.random, 16)
+        && (1..=100_000).contains(&device.life())
+        && (1..=480).contains(&plan.logical)
+        && (1..=16).contains(&plan.random)
         && has_room(device.blocks(), plan.logical, plan.random)
 }
 

@@ -71,6 +71,17 @@ fn show<D: Device>(device: &D, block: Block, page: PageOffset, buffer: &mut [u8]
     }
 }
 
+// Which kind a write is, by what the device shows of the sector's data page.
+fn kind_of<D: Device>(device: &D, block: Block, page: PageOffset) -> WriteKind
+    ensures { is_first result ≡ is_blank (seen (D.Device.flash device.now) block.0 page.0) }
+{
+    if vacant(device, block, page) {
+        WriteKind::First
+    } else {
+        WriteKind::Overwrite
+    }
+}
+
 // Whether a write could wear out a block: an overwrite makes up to min(P, L) + 1 erases, a first write none.
 fn wears_out<D: Device>(device: &D, tables: &Tables, kind: WriteKind) -> bool
     ensures { result ≡ not (is_first kind) && worn (meant (D.Device.flash device.now) (Some tables.now)) }
@@ -101,11 +112,7 @@ fn admit<D: Device>(
         return Err(Refusal::BufferNotASector);
     }
     let block = tables.map[(sector.0 / sizes.pages) as usize];
-    let kind = if vacant(device, block, PageOffset(sector.0 % sizes.pages)) {
-        WriteKind::First
-    } else {
-        WriteKind::Overwrite
-    };
+    let kind = kind_of(device, block, PageOffset(sector.0 % sizes.pages));
     if wears_out(device, tables, kind) {
         return Err(Refusal::BlocksWornOut);
     }

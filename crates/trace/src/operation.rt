@@ -7,7 +7,7 @@ use flash::device::Mark;
 use flash::numbers::{Block, PageOffset};
 use std::fmt;
 
-#[derive(Clone, Copy)]
+#[derive(Clone, Copy, PartialEq, Eq, Debug)]
 pub enum Operation {
     Program {
         block: Block,

@@ -45,14 +45,14 @@ pub(crate) enum WriteKind {
 }
 
 // What a page is programmed with.
-#[derive(Clone, Copy)]
+#[derive(Clone, Copy, PartialEq, Eq, Debug)]
 pub(crate) struct Page<'a> {
     pub mark: Mark,
     pub bytes: &'a [u8],
 }
 
 // A new page for one offset of a logical block.
-#[derive(Clone, Copy)]
+#[derive(Clone, Copy, PartialEq, Eq, Debug)]
 pub(crate) struct Fresh<'a> {
     pub offset: PageOffset,
     pub page: Page<'a>,

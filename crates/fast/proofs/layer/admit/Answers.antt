@@ -1,4 +1,4 @@
-use Rattle.std.proofs.Common.{◌≡◌, ℕ, ◌*◌, ◌/◌, ◌%◌, ◌<◌, true, false, length, get_or, Some, vec_items, sym, ap, ◌∙◌, arith}
+use Rattle.std.proofs.Common.{◌≡◌, ℕ, ◌*◌, ◌/◌, ◌%◌, ◌<◌, true, false, length, get_or, Some, vec_items, ap, ◌∙◌, arith}
 use Rattle.flash.specs.Calls.{is_blank}
 use Rattle.flash.specs.Meaning.{Flash}
 use Rattle.flash.specs.declared.numbers.Block.{Block}
@@ -12,7 +12,6 @@ use Rattle.fast.proofs.Barred.{no_sector, no_buffer, wears, no_life, no_stamp, n
 use Rattle.fast.proofs.Counts.{get_or_numbers}
 use Rattle.fast.proofs.Measures.{in_block}
 use Rattle.fast.proofs.layer.admit.Goals as goal
-use Rattle.fast.proofs.layer.admit.Goals.{then-vacant, else-vacant}
 
 pub returns-then-sector-sectors-clause-refusal : goal.returns-then-sector-sectors-clause-refusal
 returns-then-sector-sectors-clause-refusal g c = no_sector (meant (g.D.Device.flash c.args.device.now) (Some c.args.tables.now)) c.args.sector.0 c.args.bytes.now (omega (arith, c.sectors.ensures))
@@ -22,6 +21,7 @@ returns-then-bytes-ne-SECTOR_SIZE-clause-refusal g c =
     no_buffer (meant (g.D.Device.flash c.args.device.now) (Some c.args.tables.now)) c.args.sector.0 c.args.bytes.now (omega (arith, c.sectors.ensures)) c.if-bytes-ne-SECTOR_SIZE.true
 
 -- what was found of the sector's data page
+
 shown : (f : Flash) (t : Tables) (n : ℕ) (b : Block) (kind : WriteKind) → n < t.sizes.logical * t.sizes.pages → b ≡ get_or (vec_items t.map) (n / t.sizes.pages) b
     → is_first kind ≡ is_blank (seen f b.0 (n % t.sizes.pages)) → is_first kind ≡ is_blank (seen f ((view_of t).data_block (n / t.sizes.pages)) (n % t.sizes.pages))
 shown f t n b kind h e found =
@@ -36,9 +36,8 @@ returns-then-wears_out-clause-refusal g c =
     let y = meant f (Some t) in
     let n = c.args.sector.0 in
     let known : n < t.sizes.logical * t.sizes.pages = omega (arith, c.sectors.ensures) in
-    let told : is_first c.if-vacant.kind ≡ c.vacant.result = elim c.if-vacant.branch [ then-vacant w ↦ ap is_first w.kind-is ∙ sym w.if-vacant.true | else-vacant w ↦ ap is_first w.kind-is ∙ sym w.if-vacant.false ] in
-    let found = shown f t n c.index-block.result.now c.if-vacant.kind known c.index-block.ensures (told ∙ c.vacant.ensures) in
-    no_life y n c.args.bytes.now known c.if-bytes-ne-SECTOR_SIZE.false (wears y n c.args.bytes.now (is_first c.if-vacant.kind) true found c.if-wears_out.ensures)
+    let found = shown f t n c.index-block.result.now c.kind_of-kind.result known c.index-block.ensures c.kind_of-kind.ensures in
+    no_life y n c.args.bytes.now known c.if-bytes-ne-SECTOR_SIZE.false (wears y n c.args.bytes.now (is_first c.kind_of-kind.result) true found c.if-wears_out.ensures)
 
 pub returns-then-tables-clause-refusal : goal.returns-then-tables-clause-refusal
 returns-then-tables-clause-refusal g c =
@@ -47,9 +46,8 @@ returns-then-tables-clause-refusal g c =
     let y = meant f (Some t) in
     let n = c.args.sector.0 in
     let known : n < t.sizes.logical * t.sizes.pages = omega (arith, c.sectors.ensures) in
-    let told : is_first c.if-vacant.kind ≡ c.vacant.result = elim c.if-vacant.branch [ then-vacant w ↦ ap is_first w.kind-is ∙ sym w.if-vacant.true | else-vacant w ↦ ap is_first w.kind-is ∙ sym w.if-vacant.false ] in
-    let found = shown f t n c.index-block.result.now c.if-vacant.kind known c.index-block.ensures (told ∙ c.vacant.ensures) in
-    no_stamp y n c.args.bytes.now known c.if-bytes-ne-SECTOR_SIZE.false (wears y n c.args.bytes.now (is_first c.if-vacant.kind) false found c.if-wears_out.ensures) c.if-tables.true
+    let found = shown f t n c.index-block.result.now c.kind_of-kind.result known c.index-block.ensures c.kind_of-kind.ensures in
+    no_stamp y n c.args.bytes.now known c.if-bytes-ne-SECTOR_SIZE.false (wears y n c.args.bytes.now (is_first c.kind_of-kind.result) false found c.if-wears_out.ensures) c.if-tables.true
 
 pub returns-clause-refusal : goal.returns-clause-refusal
 returns-clause-refusal g c =
@@ -58,6 +56,9 @@ returns-clause-refusal g c =
     let y = meant f (Some t) in
     let n = c.args.sector.0 in
     let known : n < t.sizes.logical * t.sizes.pages = omega (arith, c.sectors.ensures) in
-    let told : is_first c.if-vacant.kind ≡ c.vacant.result = elim c.if-vacant.branch [ then-vacant w ↦ ap is_first w.kind-is ∙ sym w.if-vacant.true | else-vacant w ↦ ap is_first w.kind-is ∙ sym w.if-vacant.false ] in
-    let found = shown f t n c.index-block.result.now c.if-vacant.kind known c.index-block.ensures (told ∙ c.vacant.ensures) in
-    no_bar y n c.args.bytes.now known c.if-bytes-ne-SECTOR_SIZE.false (wears y n c.args.bytes.now (is_first c.if-vacant.kind) false found c.if-wears_out.ensures) c.if-tables.false
+    let found = shown f t n c.index-block.result.now c.kind_of-kind.result known c.index-block.ensures c.kind_of-kind.ensures in
+    no_bar y n c.args.bytes.now known c.if-bytes-ne-SECTOR_SIZE.false (wears y n c.args.bytes.now (is_first c.kind_of-kind.result) false found c.if-wears_out.ensures) c.if-tables.false
+
+pub returns-clause-found : goal.returns-clause-found
+returns-clause-found g c =
+    shown (g.D.Device.flash c.args.device.now) c.args.tables.now c.args.sector.0 c.index-block.result.now c.kind_of-kind.result (omega (arith, c.sectors.ensures)) c.index-block.ensures c.kind_of-kind.ensures

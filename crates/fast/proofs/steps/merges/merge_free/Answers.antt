@@ -1,22 +1,18 @@
-use Rattle.std.proofs.Common.{deque_items, ap, ◌∙◌, arith}
+use Rattle.std.proofs.Common.{deque_items, ap, ◌∙◌}
 use Rattle.flash.specs.Calls.{erased}
 use Rattle.fast.specs.Leaves.{fresh_view}
 use Rattle.fast.specs.Meaning.{view_of}
 use Rattle.fast.proofs.Carried.{merged_front}
 use Rattle.fast.proofs.steps.merges.merge_free.Goals as goal
 
-pub returns : goal.returns
-returns g c =
+pub returns-clause-work : goal.returns-clause-work
+returns-clause-work g c =
     let t = c.args.tables in
     let flash = g.D.Device.flash in
     record {
-      work = record {
-        does =
-            merged_front t.sizes.pages (fresh_view c.args.fresh) c.args.c.0 (deque_items t.free.blocks) c.in-Some.to c.in-Some.ensures
-            c.carry_from-copies.result (flash c.args.device.now) (flash c.carry_from-copies.new.device) (flash c.erase.new.self) (view_of t) (view_of c.renew-tables.result.0) ((view_of t).data_block c.args.c.0)
-            c.carry_from-copies.ensures.work c.renew-tables.ensures.tables (c.erase.ensures.after ∙ ap (erased (flash c.carry_from-copies.new.device)) c.renew-tables.ensures.old);
-        sized = c.renew-tables.ensures.sized;
-      };
-      few = (omega arith, c.carry_from-copies.ensures.few);
-      logged = c.renew-tables.ensures.logged;
+      does =
+          merged_front t.sizes.pages (fresh_view c.args.fresh) c.args.c.0 (deque_items t.free.blocks) c.in-Some.to c.in-Some.ensures
+          c.carry_from-copies.result (flash c.args.device.now) (flash c.carry_from-copies.new.device) (flash c.erase.new.self) (view_of t) (view_of c.renew-tables.result.0) ((view_of t).data_block c.args.c.0)
+          c.carry_from-copies.ensures.work c.renew-tables.ensures.tables (c.erase.ensures.after ∙ ap (erased (flash c.carry_from-copies.new.device)) c.renew-tables.ensures.old);
+      sized = c.renew-tables.ensures.sized;
     }

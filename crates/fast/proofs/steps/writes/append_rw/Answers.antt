@@ -9,12 +9,6 @@ use Rattle.fast.proofs.Measures.{in_block}
 use Rattle.fast.proofs.Rooms.{appended}
 use Rattle.fast.proofs.steps.writes.append_rw.Goals as goal
 
-pub index-block-requires : goal.index-block-requires
-index-block-requires g c =
-    let t = c.args.tables in
-    let k : c.len-used.result < deque_len t.rw.blocks * t.sizes.pages = omega (arith, c.len-used.ensures, c.requires.room) in
-    in_block c.len-used.result (deque_len t.rw.blocks) t.sizes.pages (omega (arith, t.sizes.pages_fit)) k
-
 pub returns : goal.returns
 returns g c =
     let t = c.args.tables in

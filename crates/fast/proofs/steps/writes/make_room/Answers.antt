@@ -7,20 +7,16 @@ use Rattle.fast.proofs.Entries.{length_views}
 use Rattle.fast.proofs.Rooms.{length_numbers, room_already, room_made}
 use Rattle.fast.proofs.steps.writes.make_room.Goals as goal
 
-pub returns-then-len-tables : goal.returns-then-len-tables
-returns-then-len-tables g c =
+pub returns-then-len-tables-clause-work : goal.returns-then-len-tables-clause-work
+returns-then-len-tables-clause-work g c =
     let t = c.args.tables in
     let lens = ap (λ n. t.sizes.pages * n) (length_numbers (deque_items t.rw.blocks) ∙ sym t.rw.blocks.ok.0) in
     let took = ap (λ n. t.sizes.pages * n) c.len-2.ensures in
     let h : length (entries_view (deque_items t.rw.entries)) < t.sizes.pages * length (numbers (deque_items t.rw.blocks)) = omega (arith, lens, took, length_views (deque_items t.rw.entries), t.rw.entries.ok.0, c.len.ensures, c.if-len-tables.true) in
-    rw c.new.ensures (record {
-      work = record { does = room_already t.sizes.pages t.sizes.random (g.D.Device.flash c.args.device.now) (view_of t) h; sized = (refl, refl) };
-      few = (omega arith, omega arith);
-      room = omega (arith, took, c.len.ensures, c.if-len-tables.true);
-    })
+    rw c.new.ensures (record { does = room_already t.sizes.pages t.sizes.random (g.D.Device.flash c.args.device.now) (view_of t) h; sized = (refl, refl) })
 
-pub returns : goal.returns
-returns g c =
+pub returns-clause-work : goal.returns-clause-work
+returns-clause-work g c =
     let t = c.args.tables in
     let v = c.thin-tables.result.tables in
     let flash = g.D.Device.flash in
@@ -30,8 +26,4 @@ returns g c =
     let took = ap (λ n. t.sizes.pages * n) c.len-2.ensures in
     let h : t.sizes.pages * length (numbers (deque_items t.rw.blocks)) ≤ length (entries_view (deque_items t.rw.entries)) = omega (arith, lens, took, length_views (deque_items t.rw.entries), t.rw.entries.ok.0, c.len.ensures, c.if-len-tables.false) in
     let some : 0 < length (numbers (deque_items v.free.blocks)) = omega (arith, length_numbers (deque_items v.free.blocks), v.free.blocks.ok.0, v.all_blocks, v.sizes.blocks_fit, d.fewer, busy_few v.sw) in
-    record {
-      work = record { does = room_made t.sizes.pages t.sizes.random (at (flash c.args.device.now) (view_of t)) (flash c.thin-tables.new.device) (view_of v) (view_of c.take_log.result) _ _ h d.work.does some r.tables; sized = (r.sized.0 ∙ d.work.sized.0, r.sized.1 ∙ d.work.sized.1) };
-      few = d.few;
-      room = r.room;
-    }
+    record { does = room_made t.sizes.pages t.sizes.random (at (flash c.args.device.now) (view_of t)) (flash c.thin-tables.new.device) (view_of v) (view_of c.take_log.result) _ _ h d.work.does some r.tables; sized = (r.sized.0 ∙ d.work.sized.0, r.sized.1 ∙ d.work.sized.1) }

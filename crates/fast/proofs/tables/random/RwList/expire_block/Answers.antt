@@ -4,12 +4,7 @@ use Rattle.fast.specs.Views.{entries_view}
 use Rattle.fast.proofs.Entries.{run_block}
 use Rattle.fast.proofs.tables.random.RwList.expire_block.Goals as goal
 
-pub returns : goal.returns
-returns c =
+pub returns-clause-entries : goal.returns-clause-entries
+returns-clause-entries c =
     let d = c.expire.ensures in
-    record {
-      blocks = d.blocks;
-      entries = d.entries ∙ ap (λ q. stale_all q (entries_view (deque_items c.args.self.now.entries))) (run_block c.args.c.0 c.args.pages c.requires.some);
-      len = d.len;
-      room = d.room;
-    }
+    d.entries ∙ ap (λ q. stale_all q (entries_view (deque_items c.args.self.now.entries))) (run_block c.args.c.0 c.args.pages c.requires.some)
