@@ -2,10 +2,11 @@
 
 ghost use Rattle.std.specs.Prelude.{◌≡◌, ◌<◌, ◌≤◌, [], ◌∷◌, ◌++◌, length, IfOk, codes};
 ghost use Rattle.console.specs.Lines.{lines};
-ghost use Rattle.console.specs.Running.{Prints};
+ghost use Rattle.console.specs.Running.{Asks, ByLine, Prints};
+ghost use Rattle.fast.specs.Makes.{Made};
 ghost use Rattle.fast.specs.Told.{started};
 ghost use Rattle.scheme.specs.Bench.{bench};
-ghost use Rattle.scheme.specs.Runs.{format};
+ghost use Rattle.scheme.specs.Runs.{Layer as SchemeLayer, format};
 ghost use Rattle.store.specs.Layered.{layer_table};
 ghost use Rattle.store.specs.Meaning.{Table};
 
@@ -23,6 +24,7 @@ pub fn respond_fresh<D: Device + Drop>(
     input: &[u8],
 ) -> Result<Vec<u8>, AllocError>
     ensures prints { IfOk result (λ out. length input.now ≤ 65536 → (u : Table) × Prints (layer_table (format (started (D.Device.flash device) 4 2 1))) 1 (lines input.now) out.items u) }
+    ensures made { IfOk result (λ out. length input.now ≤ 65536 → (y : SchemeLayer) × ByLine (Asks Made) (format (started (D.Device.flash device) 4 2 1)) 1 (lines input.now) out.items y) }
     ensures refuses { IfOk result (λ out. 65536 < length input.now → out.items ≡ codes "too long" ++ (10 ∷ [])) }
 {
     let mut layer = layer_over(heap, device, PLAN)?;
@@ -32,6 +34,7 @@ pub fn respond_fresh<D: Device + Drop>(
 // The same on the module of two blank chips, of 8 blocks in all, 4 pages a block, life 100.
 pub fn respond_on_module(heap: Global, input: &[u8]) -> Result<Vec<u8>, NoImage>
     ensures prints { IfOk result (λ out. length input.now ≤ 65536 → (u : Table) × Prints (layer_table (format bench)) 1 (lines input.now) out.items u) }
+    ensures made { IfOk result (λ out. length input.now ≤ 65536 → (y : SchemeLayer) × ByLine (Asks Made) (format bench) 1 (lines input.now) out.items y) }
     ensures refuses { IfOk result (λ out. 65536 < length input.now → out.items ≡ codes "too long" ++ (10 ∷ [])) }
 {
     let mut left = blank_image(heap, LEFT)?;

@@ -5,9 +5,10 @@ use Rattle.std.proofs.lemmas.List.{length_push}
 use Rattle.std.proofs.lemmas.Bool.Decides.{nat_tests}
 use Rattle.std.specs.List.{prefix_len}
 use Rattle.std.specs.Option.{MatchOption}
-use Rattle.console.specs.Commands.{Said, other_than, said}
+use Rattle.scheme.specs.Ledger.{Call, Reply}
+use Rattle.console.specs.Commands.{Said, says_write, says_read, other_than, said}
 use Rattle.console.specs.Lines.{lines_from, lines}
-use Rattle.console.specs.Running.{Adds, ByLine}
+use Rattle.console.specs.Running.{Asks, Adds, ByLine}
 
 -- the first line of what is left of an input, of which `front` was seen: up to byte 10, or all
 line_ends : (front bs : List ℕ) (k : ℕ) → k ≡ prefix_len (other_than 10) bs → k < length bs → lines_from front bs ≡ (front ++ take k bs) ∷ lines (drop (k + 1) bs)
@@ -72,3 +73,16 @@ module _ {S : Type 0} (does : S → ℕ → Option Said → List ℕ → S → T
   onward_last x k left out e h =
       let none : ByLine does x k left [] x = rw e (refl, refl) in
       subst (λ xs. ByLine does x₀ 1 all xs x) (append-nil out) (h.whole [] x none)
+
+-- lines that are carried out on what means something else, where a call is told by what is meant
+asks_meant : {A B : Type 0} (means : A → B) (makes : B → B → Call → Reply → Type 0) (x : A) (k : ℕ) (what : Option Said) (text : List ℕ) (y : A)
+    → Asks (λ a b. makes (means a) (means b)) x k what text y → Asks makes (means x) k what text (means y)
+asks_meant means makes x k None text y h = (h.0, ap means h.1)
+asks_meant means makes x k (Some (says_read n)) text y h = h
+asks_meant means makes x k (Some (says_write n words)) text y h = h
+
+pub lines_meant : {A B : Type 0} (means : A → B) (makes : B → B → Call → Reply → Type 0) (x : A) (k : ℕ) (ls : List (List ℕ)) (out : List ℕ) (y : A)
+    → ByLine (Asks (λ a b. makes (means a) (means b))) x k ls out y → ByLine (Asks makes) (means x) k ls out (means y)
+lines_meant means makes x k [] out y h = (h.0, ap means h.1)
+lines_meant means makes x k (l ∷ ls) out y h =
+    (means h.0, h.1, h.2, asks_meant means makes x k (said l) h.1 h.0 h.3, lines_meant means makes h.0 (suc k) ls h.2 y h.4, h.5)

@@ -1,10 +1,10 @@
 -- A list of calls made one after the other, by what is left of it.
-use Rattle.std.proofs.Common.{◌≡◌, ◌+◌, List, [], ◌∷◌, ◌++◌, length, sym, refl, ap, ◌∙◌, ap₂, subst, append_assoc, arith}
-use Rattle.std.proofs.lemmas.List.{append-nil, length_push, map-append}
+use Rattle.std.proofs.Common.{◌≡◌, ◌+◌, List, [], ◌∷◌, ◌++◌, length, sym, refl, ap, ◌∙◌, ap₂, subst, arith}
+use Rattle.std.proofs.lemmas.List.{append-nil}
 use Rattle.scheme.specs.Ledger.{Call, Reply}
 use Rattle.scheme.specs.Runs.{Layer, last_layer, replies_of}
 use Rattle.fast.specs.Makes.{Made, MakesAll}
-use Rattle.fast.specs.Replay.{calls_told, replies_told, reply_told, call_told}
+use Rattle.fast.specs.Replay.{calls_told, replies_told}
 use Rattle.fast.specs.declared.replay.Call as code_call
 use Rattle.fast.specs.declared.replay.Reply as code_reply
 
@@ -13,24 +13,10 @@ pub record Playing {S : Type 0} (makes : S → S → Call → Reply → Type 0) 
   pub goes : (rest : List Reply) (z : S) → MakesAll makes x (calls_told left) rest z → MakesAll makes first (calls_told all) (replies_told rs ++ rest) z
   pub count : length rs + length left ≡ length all
 
-module _ {S : Type 0} (makes : S → S → Call → Reply → Type 0) (first : S) (all : List code_call.Call) where
-  pub plays_first : (rs : List code_reply.Reply) → rs ≡ [] → Playing makes first all first all rs
-  plays_first rs e = rw e (record { goes = λ rest z a. a; count = omega arith })
-
-  pub plays_more : (x y : S) (left rest : List code_call.Call) (next : code_call.Call) (rs more : List code_reply.Reply) (r : code_reply.Reply)
-      → left ≡ next ∷ rest → makes x y (call_told next) (reply_told r) → more ≡ rs ++ (r ∷ []) → Playing makes first all x left rs → Playing makes first all y rest more
-  plays_more x y left rest next rs more r e m f p =
-      record {
-        goes = λ later z a.
-            subst (λ qs. MakesAll makes first (calls_told all) qs z)
-            (sym (ap (λ qs. replies_told qs ++ later) f ∙ ap (λ qs. qs ++ later) (map-append reply_told rs (r ∷ [])) ∙ append_assoc (replies_told rs) (reply_told r ∷ []) later))
-            (p.goes (reply_told r ∷ later) z (subst (λ cs. MakesAll makes x (calls_told cs) (reply_told r ∷ later) z) (sym e) (y, m, a)));
-        count = omega (arith, ap length e, ap length f, length_push rs r, p.count);
-      }
-
-  pub plays_out : (x : S) (left : List code_call.Call) (rs : List code_reply.Reply) → length left ≡ 0 → Playing makes first all x left rs → MakesAll makes first (calls_told all) (replies_told rs) x
-  plays_out x [] rs e p = subst (λ qs. MakesAll makes first (calls_told all) qs x) (append-nil (replies_told rs)) (p.goes [] x refl)
-  plays_out x (c ∷ left) rs e p = absurd (omega arith)
+pub plays_out : {S : Type 0} (makes : S → S → Call → Reply → Type 0) (first : S) (all : List code_call.Call) (x : S) (left : List code_call.Call) (rs : List code_reply.Reply)
+    → length left ≡ 0 → Playing makes first all x left rs → MakesAll makes first (calls_told all) (replies_told rs) x
+plays_out makes first all x [] rs e p = subst (λ qs. MakesAll makes first (calls_told all) qs x) (append-nil (replies_told rs)) (p.goes [] x refl)
+plays_out makes first all x (c ∷ left) rs e p = absurd (omega arith)
 
 -- calls on what means a layer are the scheme's calls on that layer
 pub record Played (y z : Layer) (cs : List Call) (rs : List Reply) : Type 0 where

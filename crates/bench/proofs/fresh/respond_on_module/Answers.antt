@@ -1,6 +1,7 @@
 use Rattle.std.proofs.Common.{vec_items, ap, ◌∙◌, subst}
 use Rattle.console.specs.Lines.{lines}
-use Rattle.console.specs.Running.{Prints}
+use Rattle.console.specs.Running.{Asks, ByLine, Prints}
+use Rattle.fast.specs.Makes.{Made}
 use Rattle.fast.specs.Told.{started}
 use Rattle.flash.specs.Stored.{image_flash}
 use Rattle.scheme.specs.Runs.{format}
@@ -17,5 +18,6 @@ returns c =
     let text = lines c.args.input.now in
     record {
       prints = λ short. let told = done.prints short in (told.0, subst (λ f. Prints (layer_table (format (started f 4 2 1))) 1 text (vec_items c.in_ok-respond_fresh.field-0) told.0) device told.1);
+      made = λ short. let told = done.made short in (told.0, subst (λ f. ByLine (Asks Made) (format (started f 4 2 1)) 1 text (vec_items c.in_ok-respond_fresh.field-0) told.0) device told.1);
       refuses = done.refuses;
     }
