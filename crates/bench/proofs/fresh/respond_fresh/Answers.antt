@@ -24,7 +24,7 @@ returns g c =
       made = IfOk-weaker c.respond.result _ _
           (λ out h short. (
             layer_of flash c.respond.new.store,
-            subst (λ y. ByLine (Asks Made) y 1 (lines c.args.input.now) (vec_items out) (layer_of flash c.respond.new.store)) after
+            subst (λ y. ByLine (Asks Made) y 1 (lines c.args.input.now) (vec_items out) (layer_of flash c.respond.new.store)) layer.after
                 (lines_meant (layer_of flash) Made c.in_ok-layer.layer 1 (lines c.args.input.now) (vec_items out) c.respond.new.store (h short)),
           ))
           c.respond.ensures.made;
