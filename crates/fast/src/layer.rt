@@ -21,7 +21,6 @@ ghost use Rattle.fast.specs.Roles.{role_told};
 ghost use Rattle.fast.specs.Told.{meant, layer_of, role_meant, started, found_told, read_told, write_told, admitted_told};
 
 use crate::fit::{Plan, fit};
-use crate::numbers::LogicalBlock;
 use crate::refusal::Refusal;
 use crate::roles::Role;
 use crate::start::start_tables;
@@ -111,8 +110,8 @@ fn admit<D: Device>(
     if bytes.len() != SECTOR_SIZE {
         return Err(Refusal::BufferNotASector);
     }
-    let block = tables.map[(sector.0 / sizes.pages) as usize];
-    let kind = kind_of(device, block, PageOffset(sector.0 % sizes.pages));
+    let (c, o) = sizes.split(sector);
+    let kind = kind_of(device, tables.map[c.0 as usize], o);
     if wears_out(device, tables, kind) {
         return Err(Refusal::BlocksWornOut);
     }
@@ -203,8 +202,8 @@ impl<D: Device> Layer<D> {
         if buffer.len() != SECTOR_SIZE {
             return Err(Refusal::BufferNotASector);
         }
-        let c = LogicalBlock(sector.0 / sizes.pages);
-        let (block, page) = tables.place(c, PageOffset(sector.0 % sizes.pages));
+        let (c, o) = sizes.split(sector);
+        let (block, page) = tables.place(c, o);
         Ok(show(&self.device, block, page, buffer))
     }
 

@@ -103,7 +103,7 @@ fn visit<D: Device>(device: &mut D, tables: Tables, i: u32) -> Step
     let Entry::Live(sector) = tables.rw.entries[i as usize] else {
         return Step::new(tables);
     };
-    let c = LogicalBlock(sector.0 / tables.sizes.pages);
+    let (c, _) = tables.sizes.split(sector);
     settle(device, tables, None, c)
 }
 
@@ -274,8 +274,7 @@ pub(crate) fn write_accepted<D: Device>(
     ensures work { Does D.Device.flash (write tables.sizes.pages tables.sizes.random sector.0 bytes.now) device.old tables device.new result }
     ensures sized { result.tables.sizes ≡ tables.sizes }
 {
-    let b = LogicalBlock(sector.0 / tables.sizes.pages);
-    let o = PageOffset(sector.0 % tables.sizes.pages);
+    let (b, o) = tables.sizes.split(sector);
     let page = Page {
         mark: Mark {
             sector,

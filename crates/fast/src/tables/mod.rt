@@ -4,15 +4,16 @@
 // each place that makes a value owes them. That is why tables are only ever written whole, taken apart by a pattern and made again by a
 // literal, while their parts change in place. The lists are reserved whole at format, so that nothing here can fail for want of memory.
 
-ghost use Rattle.std.specs.Prelude.{◌≡◌, ◌+◌, ◌*◌, ◌<◌, ◌≤◌, vec_len};
+ghost use Rattle.std.specs.Prelude.{◌≡◌, ◌+◌, ◌*◌, ◌/◌, ◌%◌, ◌<◌, ◌≤◌, vec_len};
 ghost use Rattle.std.specs.VecDeque.{deque_len, deque_capacity};
 ghost use Rattle.fast.specs.Rules.{OneRole, OneLive, busy, owner_of, fill_of};
 ghost use Rattle.fast.specs.Views.{entries_view};
 
+use crate::numbers::LogicalBlock;
 use crate::tables::free::FreeList;
 use crate::tables::random::RwList;
 use crate::tables::sequential::Sw;
-use flash::numbers::Block;
+use flash::numbers::{Block, PageOffset, Sector};
 
 pub(crate) mod changes;
 pub(crate) mod free;
@@ -40,6 +41,17 @@ impl Sizes {
         ensures { result ≡ self.now.logical * self.now.pages }
     {
         self.logical * self.pages
+    }
+
+    // The logical block that a sector lies in, and its place there.
+    pub(crate) fn split(&self, sector: Sector) -> (LogicalBlock, PageOffset)
+        ensures block { result.0.0 ≡ sector.0 / self.now.pages }
+        ensures offset { result.1.0 ≡ sector.0 % self.now.pages }
+    {
+        (
+            LogicalBlock(sector.0 / self.pages),
+            PageOffset(sector.0 % self.pages),
+        )
     }
 }
 

@@ -36,7 +36,7 @@ returns-then-wears_out-clause-refusal g c =
     let y = meant f (Some t) in
     let n = c.args.sector.0 in
     let known : n < t.sizes.logical * t.sizes.pages = omega (arith, c.sectors.ensures) in
-    let found = shown f t n c.index-block.result.now c.kind_of-kind.result known c.index-block.ensures c.kind_of-kind.ensures in
+    let found = shown f t n c.index.result.now c.kind_of-kind.result known (rw c.split.ensures.block at c.index.ensures) (rw c.split.ensures.offset at c.kind_of-kind.ensures) in
     no_life y n c.args.bytes.now known c.if-bytes-ne-SECTOR_SIZE.false (wears y n c.args.bytes.now (is_first c.kind_of-kind.result) true found c.if-wears_out.ensures)
 
 pub returns-then-tables-clause-refusal : goal.returns-then-tables-clause-refusal
@@ -46,7 +46,7 @@ returns-then-tables-clause-refusal g c =
     let y = meant f (Some t) in
     let n = c.args.sector.0 in
     let known : n < t.sizes.logical * t.sizes.pages = omega (arith, c.sectors.ensures) in
-    let found = shown f t n c.index-block.result.now c.kind_of-kind.result known c.index-block.ensures c.kind_of-kind.ensures in
+    let found = shown f t n c.index.result.now c.kind_of-kind.result known (rw c.split.ensures.block at c.index.ensures) (rw c.split.ensures.offset at c.kind_of-kind.ensures) in
     no_stamp y n c.args.bytes.now known c.if-bytes-ne-SECTOR_SIZE.false (wears y n c.args.bytes.now (is_first c.kind_of-kind.result) false found c.if-wears_out.ensures) c.if-tables.true
 
 pub returns-clause-refusal : goal.returns-clause-refusal
@@ -56,9 +56,9 @@ returns-clause-refusal g c =
     let y = meant f (Some t) in
     let n = c.args.sector.0 in
     let known : n < t.sizes.logical * t.sizes.pages = omega (arith, c.sectors.ensures) in
-    let found = shown f t n c.index-block.result.now c.kind_of-kind.result known c.index-block.ensures c.kind_of-kind.ensures in
+    let found = shown f t n c.index.result.now c.kind_of-kind.result known (rw c.split.ensures.block at c.index.ensures) (rw c.split.ensures.offset at c.kind_of-kind.ensures) in
     no_bar y n c.args.bytes.now known c.if-bytes-ne-SECTOR_SIZE.false (wears y n c.args.bytes.now (is_first c.kind_of-kind.result) false found c.if-wears_out.ensures) c.if-tables.false
 
 pub returns-clause-found : goal.returns-clause-found
 returns-clause-found g c =
-    shown (g.D.Device.flash c.args.device.now) c.args.tables.now c.args.sector.0 c.index-block.result.now c.kind_of-kind.result (omega (arith, c.sectors.ensures)) c.index-block.ensures c.kind_of-kind.ensures
+    shown (g.D.Device.flash c.args.device.now) c.args.tables.now c.args.sector.0 c.index.result.now c.kind_of-kind.result (omega (arith, c.sectors.ensures)) (rw c.split.ensures.block at c.index.ensures) (rw c.split.ensures.offset at c.kind_of-kind.ensures)

@@ -9,5 +9,5 @@ settle-requires g c =
     let t = c.args.tables in
     let h : c.args.i < length (deque_items t.rw.entries) = omega (arith, t.rw.entries.ok.0, c.requires.within) in
     record {
-      known = live_known t.sizes.pages t.sizes.logical (entries_view (deque_items t.rw.entries)) c.args.i c.in-Live.sector.0 (omega (arith, t.sizes.pages_fit)) t.one_live (view_at (deque_items t.rw.entries) c.args.i c.index.result.now (Live c.in-Live.sector) h c.index.ensures c.in-Live.is);
+      known = rw c.split.ensures.block (live_known t.sizes.pages t.sizes.logical (entries_view (deque_items t.rw.entries)) c.args.i c.in-Live.sector.0 (omega (arith, t.sizes.pages_fit)) t.one_live (view_at (deque_items t.rw.entries) c.args.i c.index.result.now (Live c.in-Live.sector) h c.index.ensures c.in-Live.is));
     }
