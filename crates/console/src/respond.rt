@@ -21,9 +21,7 @@ pub fn respond<S: Store>(heap: Global, store: &mut S, input: &[u8]) -> Result<Ve
     ensures stays { S.Store.valid store.old → S.Store.valid store.new }
 {
     if input.len() > MOST_BYTES {
-        let mut out = Vec::new(heap);
-        out.extend_from_slice(b"too long\n")?;
-        return Ok(out);
+        return b"too long\n".to_vec(heap);
     }
     run(heap, store, input)
 }
