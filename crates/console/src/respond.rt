@@ -10,7 +10,7 @@ use crate::runner::run;
 use std::alloc::{AllocError, Global};
 use store::store::Store;
 
-// The longest input.
+// The longest input. That `look` has the same limit is a rule of its own, of another program.
 pub const MOST_BYTES: usize = 65_536;
 
 pub fn respond<S: Store>(heap: Global, store: &mut S, input: &[u8]) -> Result<Vec<u8>, AllocError>

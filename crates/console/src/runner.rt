@@ -24,9 +24,8 @@ use store::store::Store;
 const NOT_UNDERSTOOD: u32 = 15;
 
 // Makes the buffer a text, filled up with zero bytes.
-fn pad(buffer: &mut [u8], text: &[u8])
-    requires whole { length buffer.old ≡ 512 }
-    requires fits { length text.now ≤ 512 }
+fn pad(buffer: &mut [u8; SECTOR_SIZE], text: &[u8])
+    requires { length text.now ≤ 512 }
     ensures { buffer.new ≡ padded text.now }
 {
     buffer.fill(0);

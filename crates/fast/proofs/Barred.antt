@@ -1,8 +1,11 @@
 -- The refusal of a write, check by check.
-use Rattle.std.proofs.Common.{◌≡◌, ℕ, ◌/◌, ◌%◌, ◌<◌, ◌≤◌, Bool, true, false, not, ◌&&◌, ◌≢◌, List, length, is_some, Some, None, sym, refl, ap, ◌∙◌}
+use Rattle.std.proofs.Common.{◌≡◌, ℕ, ◌/◌, ◌%◌, ◌<◌, ◌≤◌, Bool, true, false, not, ◌&&◌, ◌≢◌, List, length, is_some, Some, None, Err, sym, refl, ap, ◌∙◌}
 use Rattle.std.proofs.lemmas.Bool.{eq-eqb, ne_eqb, lt-ltb, le-ltb}
 use Rattle.flash.specs.Calls.{is_blank}
 use Rattle.flash.specs.Meaning.{Page, blank, holds}
+use Rattle.fast.specs.Told.{refusal_number, Addressed}
+use Rattle.fast.specs.declared.refusal.Refusal.TheVariants.{NoSuchSector, BufferNotASector, BlocksWornOut, StampsUsedUp}
+use Rattle.fast.specs.declared.refusal.Refusal.{Refusal}
 use Rattle.scheme.specs.Runs.{Layer, sectors, write_refusal, replaces, worn}
 use Rattle.scheme.specs.Work.{line, seen}
 
@@ -11,13 +14,20 @@ used_page blank = refl
 used_page (holds n t y) = refl
 
 module _ (y : Layer) (n : ℕ) (bytes : List ℕ) where
-  pub no_sector : sectors y ≤ n → Some 13 ≡ write_refusal y n bytes
+  no_sector : sectors y ≤ n → Some 13 ≡ write_refusal y n bytes
   unfolding write_refusal
   no_sector h = rw (write_refusal, le-ltb n (sectors y) h) refl
 
-  pub no_buffer : n < sectors y → length bytes ≢ 512 → Some 3 ≡ write_refusal y n bytes
+  no_buffer : n < sectors y → length bytes ≢ 512 → Some 3 ≡ write_refusal y n bytes
   unfolding write_refusal
   no_buffer h i = rw (write_refusal, lt-ltb n (sectors y) h, ne_eqb (length bytes) 512 i) refl
+
+  -- what the first checks refuse
+  pub not_addressed : (e : Refusal) → Addressed n (sectors y) (length bytes) (Err e) → Some (refusal_number e) ≡ write_refusal y n bytes
+  not_addressed NoSuchSector h = no_sector h
+  not_addressed BufferNotASector h = no_buffer h.0 h.1
+  not_addressed BlocksWornOut h = absurd h
+  not_addressed StampsUsedUp h = absurd h
 
   -- whether the page in the data block is shown as blank
   abbrev shown_blank : Bool

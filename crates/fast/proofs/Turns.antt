@@ -1,5 +1,5 @@
 -- A call of the layer, by what its parts found.
-use Rattle.std.proofs.Common.{◌≡◌, ℕ, ◌<◌, ◌≤◌, ◌≢◌, List, [], length, Some, None, sym, refl, ap, ◌∙◌, ap₂, subst₂, arith}
+use Rattle.std.proofs.Common.{◌≡◌, ℕ, ◌<◌, ◌≤◌, ◌≢◌, List, [], length, Some, None, Err, sym, refl, ap, ◌∙◌, ap₂, subst₂, arith}
 use Rattle.std.proofs.lemmas.Bool.{le-ltb, lt-ltb, eq-eqb, ne_eqb}
 use Rattle.flash.specs.Meaning.{Flash}
 use Rattle.scheme.specs.Law.{Begun, Lawful}
@@ -9,7 +9,9 @@ use Rattle.scheme.specs.Steps.{write as write_steps}
 use Rattle.scheme.proofs.Runs.{every_run_is_lawful, every_call_is_lawful}
 use Rattle.fast.specs.Leaves.{at, Left}
 use Rattle.fast.specs.Meaning.{view_of}
-use Rattle.fast.specs.Told.{meant}
+use Rattle.fast.specs.Told.{meant, refusal_number, Addressed}
+use Rattle.fast.specs.declared.refusal.Refusal.TheVariants.{NoSuchSector, BufferNotASector, BlocksWornOut, StampsUsedUp}
+use Rattle.fast.specs.declared.refusal.Refusal.{Refusal}
 use Rattle.fast.specs.declared.tables.Sizes.{Sizes}
 use Rattle.fast.specs.declared.tables.Tables.{Tables}
 
@@ -67,6 +69,14 @@ module _ (y : Layer) (n : ℕ) (buffer : List ℕ) where
   pub read_no_buffer : n < sectors y → length buffer ≢ 512 → record { answer = refused 3; buffer = buffer } ≡ (call y (read n buffer)).reply
   unfolding call
   read_no_buffer h i = rw (call, reads, lt-ltb n (sectors y) h, ne_eqb (length buffer) 512 i) refl
+
+  -- what the first checks refuse
+  pub read_not_addressed : (e : Refusal) → Addressed n (sectors y) (length buffer) (Err e) →
+      record { answer = refused (refusal_number e); buffer = buffer } ≡ (call y (read n buffer)).reply
+  read_not_addressed NoSuchSector h = read_no_sector h
+  read_not_addressed BufferNotASector h = read_no_buffer h.0 h.1
+  read_not_addressed BlocksWornOut h = absurd h
+  read_not_addressed StampsUsedUp h = absurd h
 
   pub read_shows : n < sectors y → length buffer ≡ 512 → shown (content y n) ≡ (call y (read n buffer)).reply
   unfolding call

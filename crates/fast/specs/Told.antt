@@ -1,5 +1,5 @@
 -- What a layer of the code means, and what its answers say in the terms of the ledger: each case with its number and its values.
-use Rattle.std.specs.Prelude.{ℕ, cond, List, Some, None, Ok, Err, codes, Option, Result, nat_lt}
+use Rattle.std.specs.Prelude.{◌≡◌, ℕ, ◌<◌, ◌≤◌, ◌≢◌, cond, List, Some, None, Ok, Err, codes, Option, Result, nat_lt}
 use Rattle.flash.specs.Meaning.{Flash}
 use Rattle.scheme.specs.Ledger as ledger
 use Rattle.scheme.specs.Roles.{Role, role_of}
@@ -53,6 +53,14 @@ refusal_text NoSuchSector = codes "no such sector"
 refusal_text BufferNotASector = codes "the buffer is not 512 bytes long"
 refusal_text BlocksWornOut = codes "the blocks are worn out"
 refusal_text StampsUsedUp = codes "the stamps are used up"
+
+-- What the first checks of a read or a write of sector n answer, where there are so many sectors and the buffer has so many bytes.
+abbrev pub Addressed : ℕ → ℕ → ℕ → Result (Unit {0}) Refusal → Type 0
+Addressed n size len (Ok u) = (n < size) × (len ≡ 512)
+Addressed n size len (Err NoSuchSector) = size ≤ n
+Addressed n size len (Err BufferNotASector) = (n < size) × (len ≢ 512)
+Addressed n size len (Err BlocksWornOut) = ⊥
+Addressed n size len (Err StampsUsedUp) = ⊥
 
 abbrev pub unfit_number : Unfit → ℕ
 unfit_number OutOfRange = 11

@@ -21,7 +21,7 @@ ghost use Rattle.fast.specs.Roles.{role_told};
 ghost use Rattle.fast.specs.Told.{meant, layer_of, role_meant, started, found_told, read_told, write_told, admitted_told};
 
 use crate::fit::{Plan, fit};
-use crate::refusal::Refusal;
+use crate::refusal::{Refusal, addressed};
 use crate::roles::Role;
 use crate::start::start_tables;
 use crate::steps::WriteKind;
@@ -60,6 +60,7 @@ fn show<D: Device>(device: &D, block: Block, page: PageOffset, buffer: &mut [u8]
     requires { length buffer.old ≡ SECTOR_SIZE }
     ensures { found_told result buffer.new ≡ shown (line (seen (D.Device.flash device.now) block.0 page.0)) }
 {
+    // a `match`, since what a refusal does to the buffer is no value that a method could give
     match device.read(block, page, buffer) {
         Ok(Some(_)) => Found::Bytes,
         Ok(None) => Found::NeverWritten,
@@ -104,12 +105,7 @@ fn admit<D: Device>(
     ensures found { IfOk result (λ kind. is_first kind ≡ is_blank (seen (D.Device.flash device.now) ((view_of tables.now).data_block (sector.0 / tables.now.sizes.pages)) (sector.0 % tables.now.sizes.pages))) }
 {
     let sizes = &tables.sizes;
-    if sector.0 >= sizes.sectors() {
-        return Err(Refusal::NoSuchSector);
-    }
-    if bytes.len() != SECTOR_SIZE {
-        return Err(Refusal::BufferNotASector);
-    }
+    addressed(sector, sizes.sectors(), bytes.len())?;
     let (c, o) = sizes.split(sector);
     let kind = kind_of(device, tables.map[c.0 as usize], o);
     if wears_out(device, tables, kind) {
@@ -141,6 +137,7 @@ impl<D: Device> Layer<D> {
             random: plan.random,
             blocks: device.blocks(),
         };
+        // a `match`, since a closure for the error would take the device that the other case needs
         match start_tables(heap, sizes, plan.first_stamp) {
             Err(e) => Err((device, e)),
             Ok(tables) => {
@@ -196,12 +193,7 @@ impl<D: Device> Layer<D> {
     {
         let tables = self.tables.as_ref().ok_or(Refusal::NoSuchSector)?;
         let sizes = &tables.sizes;
-        if sector.0 >= sizes.sectors() {
-            return Err(Refusal::NoSuchSector);
-        }
-        if buffer.len() != SECTOR_SIZE {
-            return Err(Refusal::BufferNotASector);
-        }
+        addressed(sector, sizes.sectors(), buffer.len())?;
         let (c, o) = sizes.split(sector);
         let (block, page) = tables.place(c, o);
         Ok(show(&self.device, block, page, buffer))

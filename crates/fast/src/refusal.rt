@@ -1,8 +1,10 @@
 // Why a layer refuses a read or a write. Where two reasons apply, the one that stands first here is given.
 
 ghost use Rattle.std.specs.Prelude.{◌≡◌, Some};
-ghost use Rattle.fast.specs.Told.{refusal_number, refusal_text};
+ghost use Rattle.fast.specs.Told.{refusal_number, refusal_text, Addressed};
 
+use flash::device::SECTOR_SIZE;
+use flash::numbers::Sector;
 use std::error::Error;
 use std::fmt;
 
@@ -20,6 +22,19 @@ impl Refusal {
     {
         self as u32
     }
+}
+
+// What every read and write of a sector is checked for first: that there is such a sector, and that the buffer is as long as one.
+pub fn addressed(sector: Sector, sectors: u32, len: usize) -> Result<(), Refusal>
+    ensures { Addressed sector.0 sectors len result }
+{
+    if sector.0 >= sectors {
+        return Err(Refusal::NoSuchSector);
+    }
+    if len != SECTOR_SIZE {
+        return Err(Refusal::BufferNotASector);
+    }
+    Ok(())
 }
 
 impl fmt::Display for Refusal {

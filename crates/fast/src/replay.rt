@@ -97,6 +97,7 @@ pub fn replay<D: Device>(
     ensures after { IfOk result (λ p. Reached (started (D.Device.flash device) plan.logical plan.random plan.first_stamp) (calls_told calls.items) (layer_of D.Device.flash p.0)) }
     ensures untouched { IfErr result (λ e. e.0 ≡ device) }
 {
+    // a `match`, since a closure for the error would take the device that the other case needs
     let mut replies = match Vec::with_capacity(heap, calls.len()) {
         Ok(replies) => replies,
         Err(e) => return Err((device, e)),

@@ -6,12 +6,12 @@
 
 ghost use Rattle.std.specs.Prelude.{◌≡◌, ◌+◌, ◌*◌, ◌^◌, ◌<◌, ◌≤◌, List, [], ◌∷◌, length, replicate, if◌then◌else◌, MatchResult};
 ghost use Rattle.std.specs.Coded.{Coded-set};
-ghost use Rattle.flash.specs.Calls.{accepts, program_answer, programmed, erase_answer, erased};
+ghost use Rattle.flash.specs.Calls.{accepts, read_answer, refused, program_answer, programmed, erase_answer, erased};
 ghost use Rattle.flash.specs.declared.device.Refusal.TheVariants.{NoSuchBlock};
 ghost use Rattle.flash.specs.Meaning.{Proper};
 ghost use Rattle.flash.specs.Patched.{all_patched};
 ghost use Rattle.flash.specs.Stored.{Fits, geometry_by, image_flash, chip_flash, chip_programmed, chip_erased, StaysImage};
-ghost use Rattle.flash.specs.Told.{done_told};
+ghost use Rattle.flash.specs.Told.{refusal_number, done_told};
 ghost use Rattle.image.specs.Format.{word, word_bytes, checked, count_place, sector_place, stamp_place, bytes_place};
 
 use crate::device::{Device, Mark, NO_SECTOR, Refusal, SECTOR_SIZE};
@@ -121,6 +121,20 @@ impl<'a> ImageChip<'a> {
         Ok(geometry)
     }
 
+    // The geometry, where the chip has this page and a buffer of so many bytes can take one.
+    fn geometry_for(&self, block: Block, page: PageOffset, len: usize) -> Result<Geometry, Refusal>
+        ensures { MatchResult result (λ g. (self.now.geometry ≡ Some g) × Fits (length self.now.bytes.now) g × (block.0 < g.blocks) × (page.0 < g.pages) × (len ≡ 512)) (λ e. read_answer (chip_flash self.now.bytes.now self.now.geometry) block.0 page.0 len ≡ refused (refusal_number e)) }
+    {
+        let geometry = self.geometry_with(block)?;
+        if page.0 >= geometry.pages {
+            return Err(Refusal::NoSuchPage);
+        }
+        if len != SECTOR_SIZE {
+            return Err(Refusal::BufferNotASector);
+        }
+        Ok(geometry)
+    }
+
     fn number(&self, at: usize) -> u32
         requires { at + 4 ≤ length self.now.bytes.now }
         ensures { result ≡ word self.now.bytes.now at }
@@ -151,13 +165,7 @@ impl<'a> Device for ImageChip<'a> {
         page: PageOffset,
         buffer: &mut [u8],
     ) -> Result<Option<Mark>, Refusal> {
-        let geometry = self.geometry_with(block)?;
-        if page.0 >= geometry.pages {
-            return Err(Refusal::NoSuchPage);
-        }
-        if buffer.len() != SECTOR_SIZE {
-            return Err(Refusal::BufferNotASector);
-        }
+        let geometry = self.geometry_for(block, page, buffer.len())?;
         let at = page_places(geometry, block, page);
         let sector = self.number(at.sector);
         if sector == NO_SECTOR {
@@ -187,13 +195,7 @@ impl<'a> Device for ImageChip<'a> {
         ensures geometry { self.new.geometry ≡ self.old.geometry }
         ensures image { StaysImage self.old.bytes.now self.new.bytes.now (chip_flash self.new.bytes.now self.new.geometry) }
     {
-        let geometry = self.geometry_with(block)?;
-        if page.0 >= geometry.pages {
-            return Err(Refusal::NoSuchPage);
-        }
-        if bytes.len() != SECTOR_SIZE {
-            return Err(Refusal::BufferNotASector);
-        }
+        let geometry = self.geometry_for(block, page, bytes.len())?;
         let at = page_places(geometry, block, page);
         let held = self.number(at.sector);
         if mark.sector.0 == NO_SECTOR {

@@ -23,7 +23,7 @@ pub struct Join<First: Device, Second: Device> {
     pub second: Second,
 }
 
-// A block of one of the sides.
+// A block of one of the sides. Either way it is a block: an enum of the library would not say of which side.
 #[derive(Clone, Copy)]
 enum Side {
     InFirst(Block),

@@ -36,6 +36,7 @@ impl<D: Device> Window<D> {
     fn shown(&self, block: Block) -> Result<Block, Refusal>
         ensures { Shows (D.Device.flash self.now.device) self.now.first.0 self.now.count block.0 result }
     {
+        // compared with the device's own number of blocks and not by `self.blocks()`, since its width shows that the sum below fits
         let blocks = self.device.blocks();
         if block.0 >= self.count.min(blocks.saturating_sub(self.first.0)) {
             return Err(Refusal::NoSuchBlock);

@@ -27,6 +27,7 @@ const OTHER: Geometry = Geometry {
     life: 1,
 };
 
+// A call as data, since one list of calls runs on devices of several types.
 #[derive(Clone, Copy)]
 enum Call {
     // block, page, length of the buffer

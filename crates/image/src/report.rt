@@ -9,7 +9,7 @@ use crate::fault::ImageFault;
 use crate::shape::Geometry;
 use std::fmt;
 
-// The longest input that is looked at.
+// The longest input that is looked at. That command lines have the same limit is a rule of its own, of another program.
 pub const MOST_BYTES: usize = 65_536;
 
 #[derive(Clone, Copy, PartialEq, Eq, Debug)]

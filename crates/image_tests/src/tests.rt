@@ -13,7 +13,7 @@ const SMALL: Geometry = Geometry {
     life: 100,
 };
 
-// What is done to a good image.
+// What is done to a good image. A list of cases holds data: closures in it would each be a type of their own.
 #[derive(Clone, Copy, Debug)]
 enum Edit {
     // only so many bytes are kept

@@ -12,13 +12,14 @@ ghost use Rattle.store.specs.Told.{refusal_told};
 
 use crate::store::{MOST_SECTORS, Store};
 use fast::layer::Found;
-use fast::refusal::Refusal;
+use fast::refusal::{Refusal, addressed};
 use flash::device::SECTOR_SIZE;
 use flash::numbers::Sector;
 
 // A sector with the byte before it.
 pub const SLOT_SIZE: usize = SECTOR_SIZE + 1;
 
+// The slots stand in the caller's bytes, so a slot is a place in them: as a slice of its own it would need a case for one that is too short.
 #[derive(Drop)]
 pub struct PlainStore<'a> {
     bytes: &'a mut [u8],
@@ -74,12 +75,7 @@ impl<'a> PlainStore<'a> {
     fn slot(&self, sector: Sector, len: usize) -> Result<usize, Refusal>
         ensures { Slot self.now.bytes.now sector.0 len result }
     {
-        if sector.0 as usize >= self.slots() {
-            return Err(Refusal::NoSuchSector);
-        }
-        if len != SECTOR_SIZE {
-            return Err(Refusal::BufferNotASector);
-        }
+        addressed(sector, self.slots() as u32, len)?;
         Ok(SLOT_SIZE * sector.0 as usize)
     }
 }

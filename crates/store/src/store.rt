@@ -17,6 +17,7 @@ use flash::numbers::Sector;
 // The most sectors that a plain store and a spread show.
 pub(crate) const MOST_SECTORS: u32 = 65_536;
 
+// `read` and `write` stand here beside those of `Sectors`: as laws over these, what they say of the table could cite no proof.
 pub trait Store {
     // What the store means.
     ghost table: { Self → Table };

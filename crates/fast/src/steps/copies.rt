@@ -13,8 +13,12 @@ use flash::device::{Device, Mark, SECTOR_SIZE};
 use flash::numbers::{Block, PageOffset};
 
 // What the device shows of a page, with its bytes in the buffer: nothing where it refuses the read.
-fn see<D: Device>(device: &D, block: Block, page: PageOffset, buffer: &mut [u8]) -> Option<Mark>
-    requires { length buffer.old ≡ SECTOR_SIZE }
+fn see<D: Device>(
+    device: &D,
+    block: Block,
+    page: PageOffset,
+    buffer: &mut [u8; SECTOR_SIZE],
+) -> Option<Mark>
     ensures { page_told result buffer.new ≡ seen (D.Device.flash device.now) block.0 page.0 }
 {
     device.read(block, page, buffer).unwrap_or(None)
@@ -43,6 +47,7 @@ fn copy_page<D: Device>(
 {
     let (block, page) = tables.place(c, o);
     let mut buffer = [0u8; SECTOR_SIZE];
+    // a `match`, since the device is asked in one case: no method of `Option` reads plainer
     match see(device, block, page, &mut buffer) {
         None => 0,
         Some(mark) => {

@@ -83,6 +83,7 @@ fn write_sequential<D: Device>(
     requires fits { o.0 < tables.sizes.pages }
     ensures work { DoesSized D.Device.flash (write_sequential tables.sizes.pages page.entry.mark.sector.0 sw.owner.0 o.0 (page_made page.entry) (sequential_of sw)) device.old tables device.new result }
 {
+    // an offset against a count of pages, which are two types on purpose
     if o.0 == sw.fill {
         return Step::new(append_sw(device, tables, sw, page));
     }

@@ -13,7 +13,8 @@ use crate::numbers::LogicalBlock;
 use flash::numbers::{Block, Sector};
 use std::collections::VecDeque;
 
-// What a filled page holds: the newest bytes of a sector, or nothing of use any more.
+// What a filled page holds: the newest bytes of a sector, or nothing of use any more. The two have the names of the layer's rules, which
+// speak of a third, a page that is blank: `None` would not tell stale from blank.
 #[derive(Clone, Copy, PartialEq, Eq, Debug)]
 pub(crate) enum Entry {
     Live(Sector),
@@ -40,6 +41,7 @@ fn expire_entries(entries: &mut [Entry], first: Sector, count: u32)
     }
 }
 
+// How much room the lists have is a fact of each change below, and no invariant here: how much they need, only the tables know.
 #[derive(Drop)]
 pub(crate) struct RwList {
     pub blocks: VecDeque<Block>,
