@@ -64,6 +64,7 @@ module _ {D : Type 0} (flash : D → Flash) (work : State → Work) (before : D)
     pub does : Does step
     pub sized : Sized step.tables t
 
+  -- The same of a step that erases and copies nothing.
   pub record WritesSized (u : Tables) : Type 0 where
     pub writes : Writes u
     pub sized : Sized u t
