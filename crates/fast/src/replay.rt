@@ -24,7 +24,7 @@ pub enum Call {
     Write(Sector, Vec<u8>),
 }
 
-#[derive(Drop)]
+#[derive(Clone, Copy, PartialEq, Eq, Debug)]
 pub enum Answer {
     Read(Result<Found, Refusal>),
     Write(Result<(u32, u32), Refusal>),

@@ -6,6 +6,7 @@ use chips::module::{LEFT, RIGHT, layer_over, two_chips};
 use fast::fit::Plan;
 use fast::layer::{Found, Layer};
 use fast::refusal::Refusal;
+use fast::replay::{Answer, Call, play};
 use flash::chip::ImageChip;
 use flash::device::{Device, SECTOR_SIZE};
 use flash::join::Join;
@@ -129,6 +130,29 @@ fn refuses<D: Device>(rt: &impl Abort, layer: &mut Layer<D>, refusal: Refusal) -
     Ok(())
 }
 
+// A list of calls on a sector that was never written, and on one that is not there.
+fn plays<D: Device>(rt: &impl Abort, heap: Global, layer: &mut Layer<D>) -> Result<(), Fail> {
+    let calls = vec![in heap;
+        Call::Read(Sector(5), vec![in heap; 0; SECTOR_SIZE]?),
+        Call::Write(Sector(5), vec![in heap; 7; SECTOR_SIZE]?),
+        Call::Read(Sector(5), vec![in heap; 0; SECTOR_SIZE]?),
+        Call::Write(Sector(16), vec![in heap; 9; SECTOR_SIZE]?),
+    ]?;
+    let expected = [
+        (Answer::Read(Ok(Found::NeverWritten)), 0xFF),
+        (Answer::Write(Ok((0, 0))), 7),
+        (Answer::Read(Ok(Found::Bytes)), 7),
+        (Answer::Write(Err(Refusal::NoSuchSector)), 9),
+    ];
+    let replies = play(heap, layer, calls)?;
+    assert_eq!(rt; replies.len(), expected.len());
+    for (reply, (answer, byte)) in replies.iter().zip(expected) {
+        assert_eq!(rt; reply.answer, answer);
+        assert!(rt; reply.buffer.as_slice() == [byte; SECTOR_SIZE].as_slice());
+    }
+    Ok(())
+}
+
 // Formats the module, whose first block was erased so often before, and tries a case on it. Answers whether the first image is as it was.
 fn on_module<F: FnOnce(&mut Layer<Join<ImageChip, Window<ImageChip>>>) -> Result<(), Fail>>(
     rt: &impl Abort,
@@ -155,6 +179,15 @@ fn on_module<F: FnOnce(&mut Layer<Join<ImageChip, Window<ImageChip>>>) -> Result
     case(&mut layer)?;
     drop(layer);
     Ok(left == before)
+}
+
+#[test]
+fn a_list_of_calls_is_made(rt: HostRuntime) -> Result<(), Fail> {
+    let same = on_module(&rt, rt.alloc(), 0, 4, 1, |layer| {
+        plays(&rt, rt.alloc(), layer)
+    })?;
+    assert_eq!(rt; same, false);
+    Ok(())
 }
 
 #[test]

@@ -1,10 +1,11 @@
 // The steps of a write, from the copy of one page up to the whole.
 //
 // A step takes the device by reference and the tables by value, and gives the tables back with its counts: so tables are only written
-// whole, and no step can leave them half changed. One struct of both could go neither way. Each says that it leaves the device and the tables that the scheme's step leaves, for
-// every device and every tables: the scheme's steps go on where the device refuses, and so do these. That a device refuses nothing of
-// what is asked after format is a law of runs, and not a premise here. Beside that, `few` bounds the counts and `logged` the lists, for the
-// sums and the indices of the callers: the bounds differ from step to step, so no one definition has them.
+// whole, and no step can leave them half changed. One struct of both could go neither way. Each says that it leaves the device and the
+// tables that the scheme's step leaves, for every device and every tables: the scheme's steps go on where the device refuses, and so do
+// these. That a device refuses nothing of what is asked after format is a law of runs, and not a premise here. Beside that, `few` bounds
+// the counts and `logged` the lists, for the sums and the indices of the callers: the bounds differ from step to step, so no one
+// definition has them.
 
 ghost use Rattle.std.specs.Prelude.{◌≡◌};
 
