@@ -1,6 +1,7 @@
 // What a program answers to an input of bounded length: what its lines print, or `too long`.
 //
-// A longer input is not begun: half of its lines carried out would be worse than none.
+// A longer input is not begun: half of its lines carried out would be worse than none. Each function that takes an input says so of itself
+// (`refuses`), for it is what its own caller is promised.
 
 ghost use Rattle.std.specs.Prelude.{◌≡◌, ◌<◌, ◌≤◌, [], ◌∷◌, ◌++◌, length, IfOk, codes};
 ghost use Rattle.console.specs.Lines.{lines};

@@ -17,7 +17,8 @@ use flash::device::Device;
 use flash::numbers::Sector;
 use std::alloc::{AllocError, Global};
 
-// A read or a write of a sector, each with its own buffer, of any length.
+// A read or a write of a sector, each with its own buffer, of any length. A call is data and no closure: a list of them is a run, of which
+// the law speaks.
 #[derive(Drop)]
 pub enum Call {
     Read(Sector, Vec<u8>),

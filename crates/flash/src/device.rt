@@ -70,6 +70,9 @@ impl fmt::Display for Refusal {
 
 impl Error for Refusal {}
 
+// A block and a page are two arguments and no struct: an erase and a count take the block alone, and a caller has the two from different
+// places.
+//
 // Each call answers as `Calls` says of the device's meaning, refusals too, and leaves the meaning and the buffer that it says. That the meaning
 // is `Proper` is no law here, since it would ask more of whoever implements a device: clauses that need it take it as their premise.
 pub trait Device {

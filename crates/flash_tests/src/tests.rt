@@ -99,7 +99,8 @@ fn sector_at<D: Device>(device: &D, block: u32, page: u32) -> Option<Sector> {
     mark.map(|mark| mark.sector)
 }
 
-// Puts bytes where there is room for them.
+// Puts bytes where there is room for them. The tests of images have a `put` of their own, of a number: a crate for both would be longer
+// than both.
 fn put(bytes: &mut [u8], at: usize, part: &[u8]) {
     if at <= bytes.len() && part.len() <= bytes.len() - at {
         bytes[at..at + part.len()].copy_from_slice(part);

@@ -17,6 +17,9 @@ use flash::numbers::Sector;
 // The most sectors that a plain store and a spread show.
 pub(crate) const MOST_SECTORS: u32 = 65_536;
 
+// `stays` of `write`, and of each call of ours that makes writes, is a promise of that call: as an invariant of the type it would leave no
+// store for which it does not hold, and those there are.
+//
 // `read` and `write` stand here beside those of `Sectors`: as laws over these, what they say of the table could cite no proof.
 pub trait Store {
     // What the store means.

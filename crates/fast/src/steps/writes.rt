@@ -238,6 +238,7 @@ fn overwrite<D: Device>(
     requires sector { page.mark.sector.0 < tables.sizes.logical * tables.sizes.pages }
     ensures work { DoesSized D.Device.flash (overwrite tables.sizes.pages tables.sizes.random page.entry.mark.sector.0 b.0 o.0 (page_made page.entry)) device.old tables device.new result }
 {
+    // an offset as the count of pages before it
     if o.0 == 0 {
         return write_start(device, tables, b, page);
     }

@@ -1,7 +1,8 @@
 // The random log blocks, which take the overwrites that come in no order: any sector into the next blank page.
 //
 // Blocks and entries stand oldest first. Only filled pages have an entry, so entry i is that of page i mod P of block i div P, the next
-// page to fill is at the number of entries, and "all full but perhaps the last" is a bound on two lengths.
+// page to fill is at the number of entries, and "all full but perhaps the last" is a bound on two lengths. One list has the entries of all
+// blocks, and none stands with its block, so that all the room there is comes from format: no memory may be asked for later.
 
 ghost use Rattle.std.specs.Prelude.{◌≡◌, ◌+◌, ◌-◌, ◌*◌, ◌/◌, ◌^◌, ◌<◌, ◌≤◌, [], ◌∷◌, ◌++◌, drop, IfSome, nat_eq, slice_index};
 ghost use Rattle.std.specs.VecDeque.{deque_len, deque_capacity};
