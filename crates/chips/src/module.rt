@@ -33,7 +33,8 @@ pub const PLAN: Plan = Plan {
     first_stamp: 1,
 };
 
-// One device and 4 blocks, from block 1 on, of another, as one.
+// One device and 4 blocks, from block 1 on, of another, as one. The images below stay their owner's, since a chip borrows its bytes: a struct
+// that owned them and made the module would have to be kept beside it all the same.
 pub fn two_chips<First: Device, Second: Device>(
     first: First,
     second: Second,

@@ -17,7 +17,7 @@ use std::fmt;
 // The bytes of a page, which are those of a sector.
 pub const SECTOR_SIZE: usize = PAGE_SIZE;
 
-// The sector number that no page can be programmed with.
+// The sector number that no page can be programmed with: the image's own mark of a blank page, of which `read` makes `None`.
 pub const NO_SECTOR: u32 = 0xFFFF_FFFF;
 
 // What a page that is not blank is marked with.

@@ -4,12 +4,12 @@
 // itself what only one side would take. A side without blocks has no say in that: the join is then the other side. However many blocks the
 // sides have, no more than 65,536 are shown. Erasing clears the whole block of the side, pages that the join hides too.
 
-ghost use Rattle.std.specs.Prelude.{◌≡◌, ◌<◌, ◌≤◌, length};
-ghost use Rattle.flash.specs.Calls.{program_answer, programmed, erase_answer, erased};
-ghost use Rattle.flash.specs.Joined.{Lies, shared, joined, first_programmed, second_programmed, first_erased, second_erased};
+ghost use Rattle.std.specs.Prelude.{◌≡◌, ℕ, ◌<◌, ◌≤◌, length, Ok, MatchResult};
+ghost use Rattle.flash.specs.Calls.{refused, read_answer, program_answer, programmed, erase_answer, erased};
+ghost use Rattle.flash.specs.Joined.{Lies, shared, joined_pages, joined, first_programmed, second_programmed, first_erased, second_erased};
 ghost use Rattle.flash.specs.Laws.{Rejoins};
 ghost use Rattle.flash.specs.Meaning.{Proper};
-ghost use Rattle.flash.specs.Told.{done_told};
+ghost use Rattle.flash.specs.Told.{refusal_number, done_told};
 
 use crate::device::{Device, Mark, Refusal};
 use crate::numbers::{Block, PageOffset};
@@ -23,7 +23,7 @@ pub struct Join<First: Device, Second: Device> {
     pub second: Second,
 }
 
-// A block of one of the sides. Either way it is a block: an enum of the library would not say of which side.
+// A block of one of the sides: `std`, on which the libraries stand alone, has no type for one of two.
 #[derive(Clone, Copy)]
 enum Side {
     InFirst(Block),
@@ -71,6 +71,19 @@ impl<First: Device, Second: Device> Join<First, Second> {
     }
 }
 
+impl<First: Device, Second: Device> Join<First, Second> {
+    // The same, where the join shows this page. Buffers are left to the side.
+    fn side_of_page(&self, block: Block, page: PageOffset) -> Result<Side, Refusal>
+        ensures { MatchResult result (λ s. Lies (First.Device.flash self.now.first) (Second.Device.flash self.now.second) block.0 (Ok s) × (page.0 < joined_pages (First.Device.flash self.now.first) (Second.Device.flash self.now.second))) (λ e. (n : ℕ) → read_answer (joined (First.Device.flash self.now.first) (Second.Device.flash self.now.second)) block.0 page.0 n ≡ refused (refusal_number e)) }
+    {
+        let side = self.side(block)?;
+        if page.0 >= self.pages() {
+            return Err(Refusal::NoSuchPage);
+        }
+        Ok(side)
+    }
+}
+
 impl<First: Device, Second: Device> Device for Join<First, Second> {
     ghost flash = { λ j. joined (First.Device.flash j.first) (Second.Device.flash j.second) };
 
@@ -95,11 +108,7 @@ impl<First: Device, Second: Device> Device for Join<First, Second> {
         page: PageOffset,
         buffer: &mut [u8],
     ) -> Result<Option<Mark>, Refusal> {
-        let side = self.side(block)?;
-        if page.0 >= self.pages() {
-            return Err(Refusal::NoSuchPage);
-        }
-        match side {
+        match self.side_of_page(block, page)? {
             Side::InFirst(block) => self.first.read(block, page, buffer),
             Side::InSecond(block) => self.second.read(block, page, buffer),
         }
@@ -117,11 +126,7 @@ impl<First: Device, Second: Device> Device for Join<First, Second> {
         ensures first { First.Device.flash self.new.first ≡ first_programmed (First.Device.flash self.old.first) (Second.Device.flash self.old.second) block.0 page.0 mark.sector.0 mark.stamp bytes.now }
         ensures second { Second.Device.flash self.new.second ≡ second_programmed (First.Device.flash self.old.first) (Second.Device.flash self.old.second) block.0 page.0 mark.sector.0 mark.stamp bytes.now }
     {
-        let side = self.side(block)?;
-        if page.0 >= self.pages() {
-            return Err(Refusal::NoSuchPage);
-        }
-        match side {
+        match self.side_of_page(block, page)? {
             Side::InFirst(block) => self.first.program(block, page, mark, bytes),
             Side::InSecond(block) => self.second.program(block, page, mark, bytes),
         }

@@ -1,6 +1,6 @@
 // The numbers of flash and sectors, each a type of its own: a block number, a page offset and a sector number are all 32 bits wide, and
 // one passed for another would read or overwrite the wrong page without any refusal. Each prints as the number alone; the three impls are
-// written out, since a type of one shape for all would make them one type again.
+// written out, since a type of one shape for all would make them one type again, and an impl by a macro of our own is refused.
 
 ghost use Rattle.std.specs.Prelude.{Some, decimal};
 

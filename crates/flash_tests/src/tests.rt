@@ -102,8 +102,9 @@ fn sector_at<D: Device>(device: &D, block: u32, page: u32) -> Option<Sector> {
 // Puts bytes where there is room for them. The tests of images have a `put` of their own, of a number: a crate for both would be longer
 // than both.
 fn put(bytes: &mut [u8], at: usize, part: &[u8]) {
-    if at <= bytes.len() && part.len() <= bytes.len() - at {
-        bytes[at..at + part.len()].copy_from_slice(part);
+    let end = at.saturating_add(part.len());
+    if let Some(place) = bytes.get_mut(at..end) {
+        place.copy_from_slice(part);
     }
 }
 
@@ -398,13 +399,8 @@ fn a_blank_image_is_refused_as_its_check_would(rt: HostRuntime) {
     for (i, Room(geometry, length, number, section, byte)) in ROOMS.into_iter().enumerate() {
         let mut bytes = [0x5A; 2121];
         let end = length.min(2121);
-        let answer = write_blank(&mut bytes[0..end], geometry).map_err(|fault| {
-            (
-                fault.fault.fault.problem.number(),
-                fault.fault.section.number(),
-                fault.fault.fault.byte,
-            )
-        });
+        let answer = write_blank(&mut bytes[0..end], geometry)
+            .map_err(|fault| (fault.number(), fault.section(), fault.byte()));
         assert_eq!(rt; answer, Err((number, section, byte)), "{i}");
         assert!(rt; bytes == [0x5A; 2121], "{i}");
     }

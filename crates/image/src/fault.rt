@@ -73,8 +73,7 @@ impl fmt::Display for NumberFault {
     ghost output = { λ x. Some (number_text x) };
 
     fn fmt<W: fmt::Write>(&self, f: &mut fmt::Formatter<W>) -> fmt::Result {
-        let NumberFault { problem, byte } = *self;
-        write!(f, "byte {byte}: {problem}")
+        write!(f, "byte {}: {}", self.byte, self.problem)
     }
 }
 
@@ -117,9 +116,7 @@ impl fmt::Display for SectionFault {
     ghost output = { λ x. Some (section_text x) };
 
     fn fmt<W: fmt::Write>(&self, f: &mut fmt::Formatter<W>) -> fmt::Result {
-        let section = self.section.number();
-        let fault = self.fault;
-        write!(f, "section {section}, {fault}")
+        write!(f, "section {}, {}", self.section.number(), self.fault)
     }
 }
 
@@ -164,8 +161,7 @@ impl fmt::Display for ImageFault {
     ghost output = { λ x. Some (image_text x) };
 
     fn fmt<W: fmt::Write>(&self, f: &mut fmt::Formatter<W>) -> fmt::Result {
-        let fault = self.fault;
-        write!(f, "no chip image: {fault}")
+        write!(f, "no chip image: {}", self.fault)
     }
 }
 

@@ -39,10 +39,8 @@ impl fmt::Display for Report {
                 )
             }
             Report::Refused(fault) => {
-                let number = fault.number();
-                let section = fault.section();
-                let byte = fault.byte();
-                write!(f, "refused {number} section {section} byte {byte}")
+                let (number, section) = (fault.number(), fault.section());
+                write!(f, "refused {number} section {section} byte {}", fault.byte())
             }
             Report::TooLong => write!(f, "too long"),
         }
@@ -55,6 +53,7 @@ fn erase_total(bytes: &[u8], blocks: u32) -> u64
     requires within { 20 + 4 * blocks ≤ length bytes.now }
     ensures { result ≡ sum (words_from bytes.now 20 blocks) }
 {
+    // a `for`: as a chain with `sum` it was tried, and that the sum fits, which follows from how many counts there are, did not close
     let (counts, _) = bytes[20..20 + 4 * blocks as usize].as_chunks();
     let mut total = 0;
     for count in counts {

@@ -81,8 +81,8 @@ const CASES: [Case; 45] = [
 
 // A number into an image. The tests of devices have a `put` of their own, of any bytes: a crate for both would be longer than both.
 fn put(bytes: &mut [u8], at: usize, n: u32) {
-    if at < bytes.len() && bytes.len() - at >= 4 {
-        bytes[at..at + 4].copy_from_slice(&n.to_le_bytes());
+    if let Some(place) = bytes.get_mut(at..).and_then(|rest| rest.first_chunk_mut()) {
+        *place = n.to_le_bytes();
     }
 }
 
