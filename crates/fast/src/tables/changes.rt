@@ -24,7 +24,6 @@ impl Tables {
     pub(crate) fn renew(self, c: LogicalBlock) -> (Tables, Block)
         requires known { c.0 < self.sizes.logical }
         requires unowned { owned c.0 (sw_view self.sw) ≡ None }
-        requires some { 0 < deque_len self.free.blocks }
         ensures tables { view_of result.0 ≡ merged self.sizes.pages c.0 (front_of self) (rest_of self) ((view_of self).data_block c.0 ∷ []) (view_of self) }
         ensures old { result.1.0 ≡ (view_of self).data_block c.0 }
         ensures roles { Led self.sizes.blocks (view_of self) (turn taken_as_data (front_of self) ∷ turn erased ((view_of self).data_block c.0) ∷ []) (view_of result.0) }
@@ -97,7 +96,6 @@ impl Tables {
     // free.
     pub(crate) fn replace(self, sw: Sw) -> (Tables, Block)
         requires has { self.sw ≡ Some sw }
-        requires some { 0 < deque_len self.free.blocks }
         ensures tables { view_of result.0 ≡ merged self.sizes.pages sw.owner.0 (front_of self) (rest_of self) ((view_of self).data_block sw.owner.0 ∷ sw.block.0 ∷ []) (view_of self) }
         ensures old { result.1.0 ≡ (view_of self).data_block sw.owner.0 }
         ensures roles { Led self.sizes.blocks (view_of self) (turn taken_as_data (front_of self) ∷ turn erased ((view_of self).data_block sw.owner.0) ∷ turn erased sw.block.0 ∷ []) (view_of result.0) }
@@ -138,7 +136,6 @@ impl Tables {
     pub(crate) fn open(self, owner: LogicalBlock) -> Tables
         requires known { owner.0 < self.sizes.logical }
         requires none { self.sw ≡ None }
-        requires some { 0 < deque_len self.free.blocks }
         ensures tables { view_of result ≡ with_sequential (Some (record { owner = owner.0; block = front_of self; fill = 1 })) (with_free (rest_of self) (view_of self)) }
         ensures roles { Led self.sizes.blocks (view_of self) (turn taken_as_sequential (front_of self) ∷ []) (view_of result) }
         ensures sized { Sized result self }
@@ -198,7 +195,6 @@ impl Tables {
     pub(crate) fn take_log(self) -> Tables
         requires fewer { deque_len self.rw.blocks < self.sizes.random }
         requires full { self.sizes.pages * deque_len self.rw.blocks ≤ deque_len self.rw.entries }
-        requires some { 0 < deque_len self.free.blocks }
         ensures tables { view_of result ≡ with_random ((view_of self).logs ++ (front_of self ∷ [])) (view_of self).entries (with_free (rest_of self) (view_of self)) }
         ensures roles { Led self.sizes.blocks (view_of self) (turn taken_as_random (front_of self) ∷ []) (view_of result) }
         ensures sized { Sized result self }
