@@ -31,9 +31,7 @@ fn merge_free<D: Device>(
     ensures few { (result.erases ≤ 1) × (result.copies ≤ tables.sizes.pages) }
     ensures logged { Logged result.tables tables }
 {
-    let Some(to) = tables.free.front() else {
-        return Step::new(tables);
-    };
+    let to = tables.first_free();
     let copies = carry_from(device, &tables, fresh, c, to, 0);
     let (tables, old) = tables.renew(c);
     let _ = device.erase(old);
@@ -78,9 +76,7 @@ pub(crate) fn merge_over<D: Device>(
     ensures work { DoesSized D.Device.flash (merge_free tables.sizes.pages (fresh_view fresh.entry) sw.owner.0 (view_of tables).free ((view_of tables).data_block sw.owner.0 ∷ sw.block.0 ∷ [])) device.old tables device.new result }
     ensures few { (result.erases ≤ 2) × (result.copies ≤ tables.sizes.pages) }
 {
-    let Some(to) = tables.free.front() else {
-        return Step::new(tables);
-    };
+    let to = tables.first_free();
     let copies = carry_from(device, &tables, fresh, sw.owner, to, 0);
     let (tables, old) = tables.replace(sw);
     let _ = device.erase(old);

@@ -25,9 +25,7 @@ fn open_sw<D: Device>(device: &mut D, tables: Tables, b: LogicalBlock, page: Pag
     requires none { tables.sw ≡ None }
     ensures work { WritesSized D.Device.flash (open_sequential tables.sizes.pages b.0 (page_made page.entry) (view_of tables).free) device.old tables device.new result }
 {
-    let Some(to) = tables.free.front() else {
-        return tables;
-    };
+    let to = tables.first_free();
     let _ = device.program(to, PageOffset(0), page.mark, page.bytes);
     tables.open(b)
 }

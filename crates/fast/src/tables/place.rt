@@ -1,9 +1,9 @@
-// Where a sector is read.
+// Where a sector is read, and which block is taken next.
 
 ghost use Rattle.std.specs.Prelude.{◌≡◌, ◌+◌, ◌*◌, ◌<◌, IfSome, Some, None};
 ghost use Rattle.scheme.specs.Place.{place, behind};
 ghost use Rattle.scheme.specs.Tables.{owned};
-ghost use Rattle.fast.specs.Meaning.{view_of};
+ghost use Rattle.fast.specs.Meaning.{view_of, front_of};
 ghost use Rattle.fast.specs.Views.{sw_view};
 
 use crate::numbers::LogicalBlock;
@@ -12,6 +12,13 @@ use crate::tables::sequential::Sw;
 use flash::numbers::{Block, PageOffset, Sector};
 
 impl Tables {
+    // The free block that is taken next: there always is one.
+    pub(crate) fn first_free(&self) -> Block
+        ensures { result.0 ≡ front_of self.now }
+    {
+        self.free.front().unwrap()
+    }
+
     // The sequential log block, if a logical block owns it.
     pub(crate) fn owned(&self, c: LogicalBlock) -> Option<Sw>
         ensures view { sw_view result ≡ owned c.0 (sw_view self.now.sw) }
