@@ -28,7 +28,7 @@ impl Entry {
         ensures { result ≡ expired_entry first.0 count self }
     {
         match self {
-            Entry::Live(n) if n.0 >= first.0 && n.0 - first.0 < count => Entry::Stale,
+            Entry::Live(n) if n.0.checked_sub(first.0).is_some_and(|i| i < count) => Entry::Stale,
             other => other,
         }
     }
