@@ -195,14 +195,8 @@ fn append_rw<D: Device>(device: &mut D, tables: Tables, page: Page) -> Tables
     ensures work { WritesSized D.Device.flash (append_random tables.sizes.pages page.entry.mark.sector.0 (page_made page.entry)) device.old tables device.new result }
 {
     let used = tables.rw.entries.len();
-    let pages = tables.sizes.pages as usize;
-    let block = tables.rw.blocks[used / pages];
-    let _ = device.program(
-        block,
-        PageOffset((used % pages) as u32),
-        page.mark,
-        page.bytes,
-    );
+    let (block, o) = tables.rw.page_of(used, tables.sizes.pages);
+    let _ = device.program(block, o, page.mark, page.bytes);
     tables.note(page.mark.sector)
 }
 

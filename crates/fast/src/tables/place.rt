@@ -36,10 +36,7 @@ impl Tables {
     {
         let sector = Sector(c.0 * self.sizes.pages + o.0);
         match self.rw.find(sector) {
-            Some(i) => {
-                let pages = self.sizes.pages as usize;
-                (self.rw.blocks[i / pages], PageOffset((i % pages) as u32))
-            }
+            Some(i) => self.rw.page_of(i, self.sizes.pages),
             None => (self.map[c.0 as usize], o),
         }
     }
