@@ -10,7 +10,7 @@ ghost use Rattle.std.specs.VecDeque.{deque_len};
 ghost use Rattle.scheme.specs.Roles.{Led, taken_as_data, taken_as_sequential, taken_as_random, finished, erased};
 ghost use Rattle.scheme.specs.Steps.{merged, turn};
 ghost use Rattle.scheme.specs.Tables.{owned, stale_all, live, with_sequential, with_random, with_free, with_next};
-ghost use Rattle.fast.specs.Meaning.{view_of, front_of, rest_of, Sized, Logged};
+ghost use Rattle.fast.specs.Meaning.{view_of, front_of, rest_of, Sized, Full, HasRoom, Logged};
 ghost use Rattle.fast.specs.Views.{sw_view};
 
 use crate::numbers::LogicalBlock;
@@ -194,11 +194,11 @@ impl Tables {
     // The first free block becomes the last random log block.
     pub(crate) fn take_log(self) -> Tables
         requires fewer { deque_len self.rw.blocks < self.sizes.random }
-        requires full { self.sizes.pages * deque_len self.rw.blocks ≤ deque_len self.rw.entries }
+        requires full { Full self }
         ensures tables { view_of result ≡ with_random ((view_of self).logs ++ (front_of self ∷ [])) (view_of self).entries (with_free (rest_of self) (view_of self)) }
         ensures roles { Led self.sizes.blocks (view_of self) (turn taken_as_random (front_of self) ∷ []) (view_of result) }
         ensures sized { Sized result self }
-        ensures room { deque_len result.rw.entries < result.sizes.pages * deque_len result.rw.blocks }
+        ensures room { HasRoom result }
     {
         let Tables {
             sizes,
@@ -223,7 +223,7 @@ impl Tables {
     // A sector is in the next page of the random log blocks.
     pub(crate) fn note(self, sector: Sector) -> Tables
         requires known { sector.0 < self.sizes.logical * self.sizes.pages }
-        requires room { deque_len self.rw.entries < self.sizes.pages * deque_len self.rw.blocks }
+        requires room { HasRoom self }
         ensures tables { view_of result ≡ with_random (view_of self).logs (stale_all (λ m. nat_eq m sector.0) (view_of self).entries ++ (live sector.0 ∷ [])) (view_of self) }
         ensures sized { Sized result self }
     {
