@@ -106,7 +106,8 @@ fn visit<D: Device>(device: &mut D, tables: Tables, i: u32) -> Step
     settle(device, tables, None, c)
 }
 
-// Visits every entry of the victim in page order. Each is looked up when its turn comes, for an earlier settle may have made it stale.
+// Visits every entry of the victim in page order. Each is looked up when its turn comes, for an earlier settle may have made it stale: so
+// a `for` over their numbers, and no iterator over the entries, which would hold the tables.
 fn visit_all<D: Device>(device: &mut D, tables: Tables) -> Step
     requires long { tables.sizes.pages ≤ deque_len tables.rw.entries }
     ensures work { DoesSized D.Device.flash (each (visit tables.sizes.pages) 0 tables.sizes.pages) device.old tables device.new result }

@@ -1,4 +1,7 @@
 // Where a sector is read, and which block is taken next.
+//
+// A logical block and an offset are two arguments, and no struct: a merge goes over the offsets of one logical block, and the map and the
+// owner of the sequential log block are asked by the block alone.
 
 ghost use Rattle.std.specs.Prelude.{◌≡◌, ◌+◌, ◌*◌, ◌<◌, IfSome, Some, None};
 ghost use Rattle.scheme.specs.Place.{place, behind};

@@ -14,8 +14,8 @@ use crate::numbers::LogicalBlock;
 use flash::numbers::{Block, PageOffset, Sector};
 use std::collections::VecDeque;
 
-// What a filled page holds: the newest bytes of a sector, or nothing of use any more. The two have the names of the layer's rules, which
-// speak of a third, a page that is blank: `None` would not tell stale from blank.
+// What a filled page holds: the newest bytes of a sector, or nothing of use any more. `Live` and `Stale` are the words of the layer's rules
+// and of the scheme's own `Entry`, and an `Option` would have to be read as these each time.
 #[derive(Clone, Copy, PartialEq, Eq, Debug)]
 pub(crate) enum Entry {
     Live(Sector),
@@ -42,7 +42,8 @@ fn expire_entries(entries: &mut [Entry], first: Sector, count: u32)
     }
 }
 
-// How much room the lists have is a fact of each change below, and no invariant here: how much they need, only the tables know.
+// How much room the lists have and what a change leaves alone are facts of each change below, and no invariant here: how much room they
+// need, and what has to hold of the rest, only the tables know.
 #[derive(Drop)]
 pub(crate) struct RwList {
     pub blocks: VecDeque<Block>,
