@@ -1,5 +1,5 @@
 -- The steps of a loop that copies.
-use Rattle.std.proofs.Common.{◌≡◌, ℕ, zero, suc, ◌+◌, ◌-◌, ◌≤◌, true, false, eqb, List, [], ◌∷◌, get_or, drop, Some, None, Option, sym, refl, ap, ◌∙◌, subst, ap₂, arith}
+use Rattle.std.proofs.Common.{◌≡◌, ℕ, zero, suc, ◌+◌, ◌-◌, ◌<◌, ◌≤◌, true, false, eqb, List, [], ◌∷◌, length, get_or, drop, Some, None, Option, sym, refl, ap, ◌∙◌, subst, ap₂, arith}
 use Rattle.std.proofs.lemmas.Bool.{eq-eqb}
 use Rattle.flash.specs.Calls.{erased}
 use Rattle.flash.specs.Meaning.{Flash, Page, blank, holds}
@@ -9,7 +9,7 @@ use Rattle.scheme.specs.Steps.{Fresh, transfer, seen_of, merge, merge_free, merg
 use Rattle.scheme.specs.Tables.{Tables, owned}
 use Rattle.scheme.specs.Work.{State, Work, each, do_copy, do_program}
 use Rattle.fast.specs.Leaves.{at, Copied, Left}
-use Rattle.fast.specs.Views.{numbers, first_of, sw_view}
+use Rattle.fast.specs.Views.{numbers, sw_view}
 use Rattle.fast.specs.declared.tables.sequential.Sw.{Sw}
 
 copy_tables : (x : Page) (to o : ℕ) (s : State) → (do_copy x to o s).after.tables ≡ s.tables
@@ -97,26 +97,24 @@ module _ (P : ℕ) (fresh : Option Fresh) (c to : ℕ) where
       record { state = ap₂ at x y; erases = omega (arith, carried_erases k (P - k) (at f t)); copies = omega (arith, copied.copied) }
 
 -- a merge into the first free block
-module _ (P : ℕ) (fresh : Option Fresh) (c : ℕ) (free : List Block) (to : Block) (first : Some to ≡ first_of free) where
-  front_number : (xs : List Block) → Some to ≡ first_of xs → get_or (numbers xs) 0 0 ≡ to.0
-  front_number [] e = let z : ◌≡◌ {A = ℕ} 0 1 = cc in absurd (omega arith)
-  front_number (x ∷ xs) e = let i : to ≡ x = cc in ap (λ (b : Block). b.0) (sym i)
-
-  front_merge : (xs : List Block) → Some to ≡ first_of xs → (dead : List ℕ) (s : State) → merge P taken_as_data fresh c to.0 0 (drop 1 (numbers xs)) dead s ≡ merge_free P fresh c (numbers xs) dead s
-  front_merge [] e dead s = let z : ◌≡◌ {A = ℕ} 0 1 = cc in absurd (omega arith)
-  front_merge (x ∷ xs) e dead s = let i : to ≡ x = cc in ap (λ (b : Block). merge P taken_as_data fresh c b.0 0 (numbers xs) dead s) i
+module _ (P : ℕ) (fresh : Option Fresh) (c : ℕ) (free : List Block) (to : Block) (some : 0 < length free) (first : to.0 ≡ get_or (numbers free) 0 0) where
+  front_merge : (xs : List Block) → 0 < length xs → (dead : List ℕ) (s : State) → merge P taken_as_data fresh c (get_or (numbers xs) 0 0) 0 (drop 1 (numbers xs)) dead s ≡ merge_free P fresh c (numbers xs) dead s
+  front_merge [] h dead s = absurd (omega arith)
+  front_merge (x ∷ xs) h dead s = refl
 
   pub merged_front : (n : ℕ) (f d e : Flash) (t u : Tables) (old : ℕ) → Copied (each (transfer P fresh c to.0) 0 (P - 0) (at f t)) d n
       → u ≡ merged P c (get_or (numbers free) 0 0) (drop 1 (numbers free)) (old ∷ []) t → e ≡ erased d old → Left (merge_free P fresh c (numbers free) (old ∷ []) (at f t)) e u 1 n
   merged_front n f d e t u old copied i j =
-      subst (λ w. Left w e u 1 n) (front_merge free first (old ∷ []) (at f t))
-      (merged_one P fresh c to.0 taken_as_data 0 n f d e t u (drop 1 (numbers free)) old copied (i ∙ ap (λ b. merged P c b (drop 1 (numbers free)) (old ∷ []) t) (front_number free first)) j)
+      let b = get_or (numbers free) 0 0 in
+      subst (λ w. Left w e u 1 n) (front_merge free some (old ∷ []) (at f t))
+      (merged_one P fresh c b taken_as_data 0 n f d e t u (drop 1 (numbers free)) old (subst (λ b. Copied (each (transfer P fresh c b) 0 (P - 0) (at f t)) d n) first copied) i j)
 
   pub merged_front_two : (n : ℕ) (f d e g : Flash) (t u : Tables) (old log : ℕ) → Copied (each (transfer P fresh c to.0) 0 (P - 0) (at f t)) d n
       → u ≡ merged P c (get_or (numbers free) 0 0) (drop 1 (numbers free)) (old ∷ log ∷ []) t → e ≡ erased d old → g ≡ erased e log → Left (merge_free P fresh c (numbers free) (old ∷ log ∷ []) (at f t)) g u 2 n
   merged_front_two n f d e g t u old log copied i j h =
-      subst (λ w. Left w g u 2 n) (front_merge free first (old ∷ log ∷ []) (at f t))
-      (merged_two P fresh c to.0 taken_as_data 0 n f d e g t u (drop 1 (numbers free)) old log copied (i ∙ ap (λ b. merged P c b (drop 1 (numbers free)) (old ∷ log ∷ []) t) (front_number free first)) j h)
+      let b = get_or (numbers free) 0 0 in
+      subst (λ w. Left w g u 2 n) (front_merge free some (old ∷ log ∷ []) (at f t))
+      (merged_two P fresh c b taken_as_data 0 n f d e g t u (drop 1 (numbers free)) old log (subst (λ b. Copied (each (transfer P fresh c b) 0 (P - 0) (at f t)) d n) first copied) i j h)
 
 -- a settle, by who owns the sequential log block
 pub settles_owned : (P : ℕ) (fresh : Option Fresh) (c : ℕ) (s : State) (q : Option Sw) (k : Sw) (f : Flash) (u : Tables) (e n : ℕ)

@@ -1,5 +1,6 @@
 -- Blocks in a changed list, and live entries in a changed list.
-use Rattle.std.proofs.Common.{◌≡◌, ℕ, zero, suc, ◌+◌, ◌/◌, ◌<◌, ◌≤◌, Bool, true, false, cond, eqb, ltb, ◌≢◌, List, [], ◌∷◌, ◌++◌, length, get_or, drop, set, Some, None, Option, sym, refl, ap, ◌∙◌, ap₂, inl, inr, append_assoc, arith}
+use Rattle.std.proofs.Common.{◌≡◌, ℕ, zero, suc, ◌+◌, ◌/◌, ◌<◌, ◌≤◌, Bool, true, false, cond, eqb, ltb, ◌≢◌, List, [], ◌∷◌, ◌++◌, length, get_or, drop, set, Some, None, Option, deque_items, sym, refl, ap, ◌∙◌, ap₂, inl, inr, append_assoc, arith}
+use Rattle.std.specs.Option.{IsSome}
 use mathlib.Core.Path.{fun_ext}
 use Rattle.std.proofs.lemmas.Bool.{cases_Bool, cases_eq, eq-eqb, ne_eqb, lt-ltb}
 use Rattle.std.proofs.lemmas.List.{map-append, drop-map, get_or-map}
@@ -10,7 +11,8 @@ use Rattle.scheme.specs.Steps.{merged, turn}
 use Rattle.scheme.specs.Tables.{Entry, live, stale, stale_all, Sequential, owned, released}
 use Rattle.scheme.proofs.Updates.{upd_both}
 use Rattle.fast.specs.Rules.{same, uses, uses_sw, busy, live_entries, OneRole, OneLive}
-use Rattle.fast.specs.Views.{numbers, view, sw_view, entries_view}
+use Rattle.fast.specs.Views.{numbers, first_of, view, sw_view, entries_view}
+use Rattle.fast.specs.declared.tables.Tables.{Tables}
 use Rattle.fast.specs.declared.tables.random.Entry as code
 use Rattle.fast.specs.declared.tables.sequential.Sw.{Sw}
 use Rattle.fast.proofs.Leads.{role_by, role_counted, uses_at, leads_one, leads_two, leads_three}
@@ -287,9 +289,21 @@ moved b xs ys xs' ys' x h e i j = omega (arith, uses_front b xs h, uses_push b y
 pub numbers_moved : (ys ys' : List Block) (x : Block) (n : ℕ) → x.0 ≡ n → ys' ≡ ys ++ (x ∷ []) → numbers ys' ≡ numbers ys ++ (n ∷ [])
 numbers_moved ys ys' x n e j = ap numbers j ∙ numbers_push ys x ∙ ap (λ m. numbers ys ++ (m ∷ [])) e
 
-pub busy_few : (q : Option Sw) → busy q ≤ 1
+busy_few : (q : Option Sw) → busy q ≤ 1
 busy_few None = omega arith
 busy_few (Some k) = omega arith
+
+pub first_some : (xs : List Block) → 0 < length xs → IsSome (first_of xs)
+first_some [] h = absurd (omega arith)
+first_some (x ∷ xs) h = refl
+
+pub first_number : (xs : List Block) (b : Block) → first_of xs ≡ Some b → b.0 ≡ get_or (numbers xs) 0 0
+first_number [] b e = let z : ◌≡◌ {A = ℕ} 0 1 = cc in absurd (omega arith)
+first_number (x ∷ xs) b e = let i : b ≡ x = cc in ap (λ (b : Block). b.0) i
+
+-- in tables there is always a free block
+pub some_free : (t : Tables) → 0 < length (deque_items t.free.blocks)
+some_free t = omega (arith, t.free.blocks.ok.0, t.all_blocks, t.few_logs, t.sizes.blocks_fit, busy_few t.sw)
 
 -- the first free block taken as a log, and the oldest random log given up
 module _ (B : ℕ) (map : List Block) (es es' : List code.Entry) (n n' : ℕ) where

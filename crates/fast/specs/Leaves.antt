@@ -1,5 +1,5 @@
 -- How the code of a step is held to the scheme's: from the device and the tables before it, it leaves what the step's work leaves.
-use Rattle.std.specs.Prelude.{◌≡◌, ℕ, Bool, true, false, List, Some, None, Option}
+use Rattle.std.specs.Prelude.{◌≡◌, ℕ, ◌≤◌, Bool, true, false, List, Some, None, Option}
 use Rattle.flash.specs.Meaning.{Flash, Page, blank, holds}
 use Rattle.flash.specs.declared.device.Mark.{Mark}
 use Rattle.scheme.specs.Steps as scheme
@@ -45,6 +45,10 @@ pub record Left (w : Work) (f : Flash) (t : SchemeTables) (e n : ℕ) : Type 0 w
   pub state : at f t ≡ w.after
   pub erases : e ≡ w.erases
   pub copies : n ≡ w.copies
+
+-- A step erased at most m blocks and copied at most n pages.
+abbrev pub Few : ℕ → ℕ → Step → Type 0
+Few m n step = (step.erases ≤ m) × (step.copies ≤ n)
 
 module _ {D : Type 0} (flash : D → Flash) (work : State → Work) (before : D) (t : Tables) (after : D) where
   -- The step leaves this device and these tables, with these counts.

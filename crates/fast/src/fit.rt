@@ -55,6 +55,7 @@ fn has_room(blocks: u32, logical: u32, random: u32) -> bool
     logical as u64 + random as u64 + 2 <= blocks as u64
 }
 
+// The limits are rules of the layer of its own, whatever an image may state.
 fn geometry_fits<D: Device>(device: &D, plan: Plan) -> bool
     ensures { result ≡ geometry_fits (D.Device.flash device.now) plan.logical plan.random }
 {

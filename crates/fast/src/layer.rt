@@ -46,7 +46,7 @@ pub enum Found {
     NeverWritten,
 }
 
-// Erases every block once, in rising order.
+// Erases every block once, in rising order. A `for` over the numbers, which are all that a device knows its blocks by.
 fn erase_all<D: Device>(device: &mut D)
     ensures { (t : SchemeTables) → at (D.Device.flash device.new) t ≡ (each do_erase 0 (D.Device.flash device.old).blocks (at (D.Device.flash device.old) t)).after }
 {

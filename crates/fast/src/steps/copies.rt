@@ -80,7 +80,8 @@ fn carry<D: Device>(
     }
 }
 
-// Gives a block the pages of the offsets from `first` on, in order. Says how many were copied.
+// Gives a block the pages of the offsets from `first` on, in order. Says how many were copied. A `for`, since each page is programmed
+// before the next is read: a chain would hide that the device changes in between.
 pub(crate) fn carry_from<D: Device>(
     device: &mut D,
     tables: &Tables,

@@ -3,11 +3,11 @@
 // In each the pages are copied first, then the tables change as a whole, and the dead blocks are erased last. So at each moment the place
 // of every sector holds its newest bytes, and no block is erased in which a place still lies.
 
-ghost use Rattle.std.specs.Prelude.{◌≡◌, ◌<◌, ◌≤◌, [], ◌∷◌, Some, None};
+ghost use Rattle.std.specs.Prelude.{◌≡◌, ◌<◌, [], ◌∷◌, Some, None};
 ghost use Rattle.scheme.specs.Roles.{finished};
 ghost use Rattle.scheme.specs.Steps.{merge, merge_free, settle};
 ghost use Rattle.scheme.specs.Tables.{owned};
-ghost use Rattle.fast.specs.Leaves.{fresh_view, DoesSized};
+ghost use Rattle.fast.specs.Leaves.{fresh_view, Few, DoesSized};
 ghost use Rattle.fast.specs.Meaning.{view_of, Logged};
 ghost use Rattle.fast.specs.Views.{sw_view};
 
@@ -28,12 +28,10 @@ fn merge_free<D: Device>(
     requires known { c.0 < tables.sizes.logical }
     requires unowned { owned c.0 (sw_view tables.sw) ≡ None }
     ensures work { DoesSized D.Device.flash (merge_free tables.sizes.pages (fresh_view fresh.entry) c.0 (view_of tables).free ((view_of tables).data_block c.0 ∷ [])) device.old tables device.new result }
-    ensures few { (result.erases ≤ 1) × (result.copies ≤ tables.sizes.pages) }
+    ensures few { Few 1 tables.sizes.pages result }
     ensures logged { Logged result.tables tables }
 {
-    let Some(to) = tables.free.front() else {
-        return Step::new(tables);
-    };
+    let to = tables.first_free();
     let copies = carry_from(device, &tables, fresh, c, to, 0);
     let (tables, old) = tables.renew(c);
     let _ = device.erase(old);
@@ -53,7 +51,7 @@ pub(crate) fn merge_sw<D: Device>(
 ) -> Step
     requires has { tables.sw ≡ Some sw }
     ensures work { DoesSized D.Device.flash (merge tables.sizes.pages finished (fresh_view fresh.entry) sw.owner.0 sw.block.0 sw.fill (view_of tables).free ((view_of tables).data_block sw.owner.0 ∷ [])) device.old tables device.new result }
-    ensures few { (result.erases ≤ 1) × (result.copies ≤ tables.sizes.pages) }
+    ensures few { Few 1 tables.sizes.pages result }
     ensures none { result.tables.sw ≡ None }
     ensures logged { Logged result.tables tables }
 {
@@ -76,11 +74,9 @@ pub(crate) fn merge_over<D: Device>(
 ) -> Step
     requires has { tables.sw ≡ Some sw }
     ensures work { DoesSized D.Device.flash (merge_free tables.sizes.pages (fresh_view fresh.entry) sw.owner.0 (view_of tables).free ((view_of tables).data_block sw.owner.0 ∷ sw.block.0 ∷ [])) device.old tables device.new result }
-    ensures few { (result.erases ≤ 2) × (result.copies ≤ tables.sizes.pages) }
+    ensures few { Few 2 tables.sizes.pages result }
 {
-    let Some(to) = tables.free.front() else {
-        return Step::new(tables);
-    };
+    let to = tables.first_free();
     let copies = carry_from(device, &tables, fresh, sw.owner, to, 0);
     let (tables, old) = tables.replace(sw);
     let _ = device.erase(old);
@@ -101,7 +97,7 @@ pub(crate) fn settle<D: Device>(
 ) -> Step
     requires known { c.0 < tables.sizes.logical }
     ensures work { DoesSized D.Device.flash (settle tables.sizes.pages (fresh_view fresh.entry) c.0) device.old tables device.new result }
-    ensures few { (result.erases ≤ 1) × (result.copies ≤ tables.sizes.pages) }
+    ensures few { Few 1 tables.sizes.pages result }
     ensures logged { Logged result.tables tables }
 {
     match tables.owned(c) {

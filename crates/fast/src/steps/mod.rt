@@ -4,9 +4,9 @@
 // whole, and no step can leave them half changed. One struct of both could go neither way. Each says that it leaves the device and the
 // tables that the scheme's step leaves, for every device and every tables: the scheme's steps go on where the device refuses, and so do
 // these. That a device refuses nothing of what is asked after format is a law of runs, and not a premise here. Beside that, `few` bounds
-// the counts and `logged` the lists, for the sums and the indices of the callers: the bounds differ from step to step, so no one
-// definition has them. What a step requires of a logical block or of the sequential log block is a fact about that value and the tables
-// together, of which each changes alone, so no type of one of them can have it.
+// the counts, by two numbers of the step's own, and `logged` keeps the lengths of the lists, for the sums and the indices of the callers.
+// They are clauses of their own, since some steps owe one of them or none. What a step requires of a logical block or of the sequential
+// log block is a fact about that value and the tables together, of which each changes alone, so no type of one of them can have it.
 
 ghost use Rattle.std.specs.Prelude.{◌≡◌};
 

@@ -6,8 +6,8 @@ ghost use Rattle.std.specs.VecDeque.{deque_len};
 ghost use Rattle.flash.specs.Calls.{is_blank};
 ghost use Rattle.scheme.specs.Steps.{write_first, open_sequential, settle_owner, write_start, append_sequential, write_sequential, visit, reclaim, thinned, make_room, append_random, write_random, overwrite, write};
 ghost use Rattle.scheme.specs.Work.{each, seen};
-ghost use Rattle.fast.specs.Leaves.{page_made, is_first, Does, Writes, DoesSized, WritesSized};
-ghost use Rattle.fast.specs.Meaning.{view_of, Logged};
+ghost use Rattle.fast.specs.Leaves.{page_made, is_first, Few, Does, Writes, DoesSized, WritesSized};
+ghost use Rattle.fast.specs.Meaning.{view_of, Full, HasRoom, Logged};
 ghost use Rattle.fast.specs.Views.{sequential_of};
 
 use crate::numbers::LogicalBlock;
@@ -25,9 +25,7 @@ fn open_sw<D: Device>(device: &mut D, tables: Tables, b: LogicalBlock, page: Pag
     requires none { tables.sw ≡ None }
     ensures work { WritesSized D.Device.flash (open_sequential tables.sizes.pages b.0 (page_made page.entry) (view_of tables).free) device.old tables device.new result }
 {
-    let Some(to) = tables.free.front() else {
-        return tables;
-    };
+    let to = tables.first_free();
     let _ = device.program(to, PageOffset(0), page.mark, page.bytes);
     tables.open(b)
 }
@@ -35,7 +33,7 @@ fn open_sw<D: Device>(device: &mut D, tables: Tables, b: LogicalBlock, page: Pag
 // Settles the owner of the sequential log block, if there is one.
 fn settle_owner<D: Device>(device: &mut D, tables: Tables) -> Step
     ensures work { DoesSized D.Device.flash (settle_owner tables.sizes.pages (view_of tables).sequential) device.old tables device.new result }
-    ensures few { (result.erases ≤ 1) × (result.copies ≤ tables.sizes.pages) }
+    ensures few { Few 1 tables.sizes.pages result }
     ensures none { result.tables.sw ≡ None }
 {
     let Some(sw) = tables.sw else {
@@ -98,7 +96,7 @@ fn write_sequential<D: Device>(
 fn visit<D: Device>(device: &mut D, tables: Tables, i: u32) -> Step
     requires within { i < deque_len tables.rw.entries }
     ensures work { DoesSized D.Device.flash (visit tables.sizes.pages i) device.old tables device.new result }
-    ensures few { (result.erases ≤ 1) × (result.copies ≤ tables.sizes.pages) }
+    ensures few { Few 1 tables.sizes.pages result }
     ensures logged { Logged result.tables tables }
 {
     let Entry::Live(sector) = tables.rw.entries[i as usize] else {
@@ -108,11 +106,12 @@ fn visit<D: Device>(device: &mut D, tables: Tables, i: u32) -> Step
     settle(device, tables, None, c)
 }
 
-// Visits every entry of the victim in page order. Each is looked up when its turn comes, for an earlier settle may have made it stale.
+// Visits every entry of the victim in page order. Each is looked up when its turn comes, for an earlier settle may have made it stale: so
+// a `for` over their numbers, and no iterator over the entries, which would hold the tables.
 fn visit_all<D: Device>(device: &mut D, tables: Tables) -> Step
     requires long { tables.sizes.pages ≤ deque_len tables.rw.entries }
     ensures work { DoesSized D.Device.flash (each (visit tables.sizes.pages) 0 tables.sizes.pages) device.old tables device.new result }
-    ensures few { (result.erases ≤ tables.sizes.pages) × (result.copies ≤ tables.sizes.pages * tables.sizes.pages) }
+    ensures few { Few tables.sizes.pages (tables.sizes.pages * tables.sizes.pages) result }
     ensures logged { Logged result.tables tables }
 {
     let pages = tables.sizes.pages;
@@ -135,9 +134,9 @@ fn visit_all<D: Device>(device: &mut D, tables: Tables) -> Step
 // Settles what is live in the oldest random log block, the victim, and makes that block free.
 fn reclaim<D: Device>(device: &mut D, tables: Tables) -> Step
     requires some { 0 < deque_len tables.rw.blocks }
-    requires full { tables.sizes.pages * deque_len tables.rw.blocks ≤ deque_len tables.rw.entries }
+    requires full { Full tables }
     ensures work { DoesSized D.Device.flash (reclaim tables.sizes.pages) device.old tables device.new result }
-    ensures few { (result.erases ≤ tables.sizes.pages + 1) × (result.copies ≤ tables.sizes.pages * tables.sizes.pages) }
+    ensures few { Few (tables.sizes.pages + 1) (tables.sizes.pages * tables.sizes.pages) result }
     ensures logs { deque_len result.tables.rw.blocks + 1 ≡ deque_len tables.rw.blocks }
     ensures entries { deque_len result.tables.rw.entries ≡ deque_len tables.rw.entries - tables.sizes.pages }
 {
@@ -157,11 +156,11 @@ fn reclaim<D: Device>(device: &mut D, tables: Tables) -> Step
 
 // Makes fewer random log blocks than there may be, where all are full.
 fn thin<D: Device>(device: &mut D, tables: Tables) -> Step
-    requires full { tables.sizes.pages * deque_len tables.rw.blocks ≤ deque_len tables.rw.entries }
+    requires full { Full tables }
     ensures work { DoesSized D.Device.flash (thinned tables.sizes.pages tables.sizes.random) device.old tables device.new result }
-    ensures few { (result.erases ≤ tables.sizes.pages + 1) × (result.copies ≤ tables.sizes.pages * tables.sizes.pages) }
+    ensures few { Few (tables.sizes.pages + 1) (tables.sizes.pages * tables.sizes.pages) result }
     ensures fewer { deque_len result.tables.rw.blocks < result.tables.sizes.random }
-    ensures full { result.tables.sizes.pages * deque_len result.tables.rw.blocks ≤ deque_len result.tables.rw.entries }
+    ensures full { Full result.tables }
 {
     if tables.rw.blocks.len() < tables.sizes.random as usize {
         return Step::new(tables);
@@ -172,8 +171,8 @@ fn thin<D: Device>(device: &mut D, tables: Tables) -> Step
 // Makes sure that the last random log block has a blank page.
 fn make_room<D: Device>(device: &mut D, tables: Tables) -> Step
     ensures work { DoesSized D.Device.flash (make_room tables.sizes.pages tables.sizes.random) device.old tables device.new result }
-    ensures few { (result.erases ≤ tables.sizes.pages + 1) × (result.copies ≤ tables.sizes.pages * tables.sizes.pages) }
-    ensures room { deque_len result.tables.rw.entries < result.tables.sizes.pages * deque_len result.tables.rw.blocks }
+    ensures few { Few (tables.sizes.pages + 1) (tables.sizes.pages * tables.sizes.pages) result }
+    ensures room { HasRoom result.tables }
 {
     if tables.rw.entries.len() < tables.sizes.pages as usize * tables.rw.blocks.len() {
         return Step::new(tables);
@@ -193,18 +192,12 @@ fn make_room<D: Device>(device: &mut D, tables: Tables) -> Step
 // A sector into the next page of the random log blocks.
 fn append_rw<D: Device>(device: &mut D, tables: Tables, page: Page) -> Tables
     requires known { page.mark.sector.0 < tables.sizes.logical * tables.sizes.pages }
-    requires room { deque_len tables.rw.entries < tables.sizes.pages * deque_len tables.rw.blocks }
+    requires room { HasRoom tables }
     ensures work { WritesSized D.Device.flash (append_random tables.sizes.pages page.entry.mark.sector.0 (page_made page.entry)) device.old tables device.new result }
 {
     let used = tables.rw.entries.len();
-    let pages = tables.sizes.pages as usize;
-    let block = tables.rw.blocks[used / pages];
-    let _ = device.program(
-        block,
-        PageOffset((used % pages) as u32),
-        page.mark,
-        page.bytes,
-    );
+    let (block, o) = tables.rw.page_of(used, tables.sizes.pages);
+    let _ = device.program(block, o, page.mark, page.bytes);
     tables.note(page.mark.sector)
 }
 

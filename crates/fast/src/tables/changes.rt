@@ -10,7 +10,7 @@ ghost use Rattle.std.specs.VecDeque.{deque_len};
 ghost use Rattle.scheme.specs.Roles.{Led, taken_as_data, taken_as_sequential, taken_as_random, finished, erased};
 ghost use Rattle.scheme.specs.Steps.{merged, turn};
 ghost use Rattle.scheme.specs.Tables.{owned, stale_all, live, with_sequential, with_random, with_free, with_next};
-ghost use Rattle.fast.specs.Meaning.{view_of, front_of, rest_of, Sized, Logged};
+ghost use Rattle.fast.specs.Meaning.{view_of, front_of, rest_of, Sized, Full, HasRoom, Logged};
 ghost use Rattle.fast.specs.Views.{sw_view};
 
 use crate::numbers::LogicalBlock;
@@ -24,7 +24,6 @@ impl Tables {
     pub(crate) fn renew(self, c: LogicalBlock) -> (Tables, Block)
         requires known { c.0 < self.sizes.logical }
         requires unowned { owned c.0 (sw_view self.sw) ≡ None }
-        requires some { 0 < deque_len self.free.blocks }
         ensures tables { view_of result.0 ≡ merged self.sizes.pages c.0 (front_of self) (rest_of self) ((view_of self).data_block c.0 ∷ []) (view_of self) }
         ensures old { result.1.0 ≡ (view_of self).data_block c.0 }
         ensures roles { Led self.sizes.blocks (view_of self) (turn taken_as_data (front_of self) ∷ turn erased ((view_of self).data_block c.0) ∷ []) (view_of result.0) }
@@ -97,7 +96,6 @@ impl Tables {
     // free.
     pub(crate) fn replace(self, sw: Sw) -> (Tables, Block)
         requires has { self.sw ≡ Some sw }
-        requires some { 0 < deque_len self.free.blocks }
         ensures tables { view_of result.0 ≡ merged self.sizes.pages sw.owner.0 (front_of self) (rest_of self) ((view_of self).data_block sw.owner.0 ∷ sw.block.0 ∷ []) (view_of self) }
         ensures old { result.1.0 ≡ (view_of self).data_block sw.owner.0 }
         ensures roles { Led self.sizes.blocks (view_of self) (turn taken_as_data (front_of self) ∷ turn erased ((view_of self).data_block sw.owner.0) ∷ turn erased sw.block.0 ∷ []) (view_of result.0) }
@@ -138,7 +136,6 @@ impl Tables {
     pub(crate) fn open(self, owner: LogicalBlock) -> Tables
         requires known { owner.0 < self.sizes.logical }
         requires none { self.sw ≡ None }
-        requires some { 0 < deque_len self.free.blocks }
         ensures tables { view_of result ≡ with_sequential (Some (record { owner = owner.0; block = front_of self; fill = 1 })) (with_free (rest_of self) (view_of self)) }
         ensures roles { Led self.sizes.blocks (view_of self) (turn taken_as_sequential (front_of self) ∷ []) (view_of result) }
         ensures sized { Sized result self }
@@ -197,12 +194,11 @@ impl Tables {
     // The first free block becomes the last random log block.
     pub(crate) fn take_log(self) -> Tables
         requires fewer { deque_len self.rw.blocks < self.sizes.random }
-        requires full { self.sizes.pages * deque_len self.rw.blocks ≤ deque_len self.rw.entries }
-        requires some { 0 < deque_len self.free.blocks }
+        requires full { Full self }
         ensures tables { view_of result ≡ with_random ((view_of self).logs ++ (front_of self ∷ [])) (view_of self).entries (with_free (rest_of self) (view_of self)) }
         ensures roles { Led self.sizes.blocks (view_of self) (turn taken_as_random (front_of self) ∷ []) (view_of result) }
         ensures sized { Sized result self }
-        ensures room { deque_len result.rw.entries < result.sizes.pages * deque_len result.rw.blocks }
+        ensures room { HasRoom result }
     {
         let Tables {
             sizes,
@@ -227,7 +223,7 @@ impl Tables {
     // A sector is in the next page of the random log blocks.
     pub(crate) fn note(self, sector: Sector) -> Tables
         requires known { sector.0 < self.sizes.logical * self.sizes.pages }
-        requires room { deque_len self.rw.entries < self.sizes.pages * deque_len self.rw.blocks }
+        requires room { HasRoom self }
         ensures tables { view_of result ≡ with_random (view_of self).logs (stale_all (λ m. nat_eq m sector.0) (view_of self).entries ++ (live sector.0 ∷ [])) (view_of self) }
         ensures sized { Sized result self }
     {

@@ -1,9 +1,12 @@
-// Where a sector is read.
+// Where a sector is read, and which block is taken next.
+//
+// A logical block and an offset are two arguments, and no struct: a merge goes over the offsets of one logical block, and the map and the
+// owner of the sequential log block are asked by the block alone.
 
 ghost use Rattle.std.specs.Prelude.{◌≡◌, ◌+◌, ◌*◌, ◌<◌, IfSome, Some, None};
 ghost use Rattle.scheme.specs.Place.{place, behind};
 ghost use Rattle.scheme.specs.Tables.{owned};
-ghost use Rattle.fast.specs.Meaning.{view_of};
+ghost use Rattle.fast.specs.Meaning.{view_of, front_of};
 ghost use Rattle.fast.specs.Views.{sw_view};
 
 use crate::numbers::LogicalBlock;
@@ -12,6 +15,13 @@ use crate::tables::sequential::Sw;
 use flash::numbers::{Block, PageOffset, Sector};
 
 impl Tables {
+    // The free block that is taken next: there always is one.
+    pub(crate) fn first_free(&self) -> Block
+        ensures { result.0 ≡ front_of self.now }
+    {
+        self.free.front().unwrap()
+    }
+
     // The sequential log block, if a logical block owns it.
     pub(crate) fn owned(&self, c: LogicalBlock) -> Option<Sw>
         ensures view { sw_view result ≡ owned c.0 (sw_view self.now.sw) }
@@ -29,10 +39,7 @@ impl Tables {
     {
         let sector = Sector(c.0 * self.sizes.pages + o.0);
         match self.rw.find(sector) {
-            Some(i) => {
-                let pages = self.sizes.pages as usize;
-                (self.rw.blocks[i / pages], PageOffset((i % pages) as u32))
-            }
+            Some(i) => self.rw.page_of(i, self.sizes.pages),
             None => (self.map[c.0 as usize], o),
         }
     }

@@ -4,18 +4,18 @@
 // page to fill is at the number of entries, and "all full but perhaps the last" is a bound on two lengths. One list has the entries of all
 // blocks, and none stands with its block, so that all the room there is comes from format: no memory may be asked for later.
 
-ghost use Rattle.std.specs.Prelude.{◌≡◌, ◌+◌, ◌-◌, ◌*◌, ◌/◌, ◌^◌, ◌<◌, ◌≤◌, [], ◌∷◌, ◌++◌, drop, IfSome, nat_eq, slice_index};
+ghost use Rattle.std.specs.Prelude.{◌≡◌, ◌+◌, ◌-◌, ◌*◌, ◌/◌, ◌%◌, ◌^◌, ◌<◌, ◌≤◌, [], ◌∷◌, ◌++◌, drop, IfSome, nat_eq, slice_index};
 ghost use Rattle.std.specs.VecDeque.{deque_len, deque_capacity};
 ghost use Rattle.scheme.specs.Place.{entry_of};
 ghost use Rattle.scheme.specs.Tables.{stale_all, live};
 ghost use Rattle.fast.specs.Views.{numbers, entries_view, expired_entry, in_run};
 
 use crate::numbers::LogicalBlock;
-use flash::numbers::{Block, Sector};
+use flash::numbers::{Block, PageOffset, Sector};
 use std::collections::VecDeque;
 
-// What a filled page holds: the newest bytes of a sector, or nothing of use any more. The two have the names of the layer's rules, which
-// speak of a third, a page that is blank: `None` would not tell stale from blank.
+// What a filled page holds: the newest bytes of a sector, or nothing of use any more. `Live` and `Stale` are the words of the layer's rules
+// and of the scheme's own `Entry`, and an `Option` would have to be read as these each time.
 #[derive(Clone, Copy, PartialEq, Eq, Debug)]
 pub(crate) enum Entry {
     Live(Sector),
@@ -28,7 +28,7 @@ impl Entry {
         ensures { result ≡ expired_entry first.0 count self }
     {
         match self {
-            Entry::Live(n) if n.0 >= first.0 && n.0 - first.0 < count => Entry::Stale,
+            Entry::Live(n) if n.0.checked_sub(first.0).is_some_and(|i| i < count) => Entry::Stale,
             other => other,
         }
     }
@@ -42,7 +42,8 @@ fn expire_entries(entries: &mut [Entry], first: Sector, count: u32)
     }
 }
 
-// How much room the lists have is a fact of each change below, and no invariant here: how much they need, only the tables know.
+// How much room the lists have and what a change leaves alone are facts of each change below, and no invariant here: how much room they
+// need, and what has to hold of the rest, only the tables know.
 #[derive(Drop)]
 pub(crate) struct RwList {
     pub blocks: VecDeque<Block>,
@@ -56,6 +57,20 @@ impl RwList {
         ensures within { IfSome result (λ i. i < deque_len self.now.entries) }
     {
         self.entries.iter().position(|e| *e == Entry::Live(sector))
+    }
+
+    // The block and the page that an entry is of. The entry may be the next, whose page is still blank.
+    pub(crate) fn page_of(&self, entry: usize, pages: u32) -> (Block, PageOffset)
+        requires some { 0 < pages }
+        requires within { entry < pages * deque_len self.now.blocks }
+        ensures block { result.0.0 ≡ slice_index (numbers self.now.blocks.items) (entry / pages) }
+        ensures page { result.1.0 ≡ entry % pages }
+    {
+        let pages = pages as usize;
+        (
+            self.blocks[entry / pages],
+            PageOffset((entry % pages) as u32),
+        )
     }
 
     // Makes the live entries of `count` sectors from `first` on stale: their newest bytes stand elsewhere now.

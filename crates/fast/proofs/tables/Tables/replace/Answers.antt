@@ -1,8 +1,11 @@
 use Rattle.std.proofs.Common.{◌/◌, ◌<◌, eqb, [], ◌∷◌, ◌++◌, length, vec_items, deque_items, ap, ◌∙◌, arith}
 use Rattle.fast.specs.Rules.{live_entries, owner_of}
 use Rattle.fast.specs.Views.{entries_view}
-use Rattle.fast.proofs.Counts.{get_or_numbers, live_stale, replaced_roles, replaced_led, replaced_view}
+use Rattle.fast.proofs.Counts.{get_or_numbers, live_stale, replaced_roles, replaced_led, replaced_view, some_free}
 use Rattle.fast.proofs.tables.Tables.replace.Goals as goal
+
+pub take-new-requires : goal.take-new-requires
+take-new-requires c = omega (arith, c.args.self.free.blocks.ok.0, some_free c.args.self)
 
 pub invariant_of-result-clause-one_role : goal.invariant_of-result-clause-one_role
 invariant_of-result-clause-one_role c =
@@ -12,9 +15,8 @@ invariant_of-result-clause-one_role c =
     let h : k.owner.0 < length (vec_items t.map) = omega (arith, ap owner_of c.requires.has, t.owned, t.map.ok.0, t.mapped) in
     let logs = ap deque_items c.expire_block.ensures.blocks in
     let is_old = get_or_numbers (vec_items t.map) k.owner.0 old h c.index-old.ensures in
-    let some : 0 < length (deque_items t.free.blocks) = omega (arith, t.free.blocks.ok.0, c.requires.some) in
     let free = c.put-2.ensures.items ∙ ap (λ xs. xs ++ (k.block ∷ [])) (c.put.ensures.items ∙ ap (λ xs. xs ++ (old ∷ [])) c.take-new.ensures.items) in
-    replaced_roles (vec_items t.map) (deque_items t.rw.blocks) (deque_items t.free.blocks) _ _ t.sw k c.requires.has c.take-new.result old h some c.take-new.ensures.block is_old logs free t.sizes.blocks t.one_role
+    replaced_roles (vec_items t.map) (deque_items t.rw.blocks) (deque_items t.free.blocks) _ _ t.sw k c.requires.has c.take-new.result old h (some_free t) c.take-new.ensures.block is_old logs free t.sizes.blocks t.one_role
 
 pub invariant_of-result-clause-one_live : goal.invariant_of-result-clause-one_live
 invariant_of-result-clause-one_live c =
@@ -30,9 +32,8 @@ returns-clause-tables c =
     let h : k.owner.0 < length (vec_items t.map) = omega (arith, ap owner_of c.requires.has, t.owned, t.map.ok.0, t.mapped) in
     let logs = ap deque_items c.expire_block.ensures.blocks in
     let is_old = get_or_numbers (vec_items t.map) k.owner.0 old h c.index-old.ensures in
-    let some : 0 < length (deque_items t.free.blocks) = omega (arith, t.free.blocks.ok.0, c.requires.some) in
     let free = c.put-2.ensures.items ∙ ap (λ xs. xs ++ (k.block ∷ [])) (c.put.ensures.items ∙ ap (λ xs. xs ++ (old ∷ [])) c.take-new.ensures.items) in
-    replaced_view (vec_items t.map) (deque_items t.rw.blocks) (deque_items t.free.blocks) _ _ t.sw k c.requires.has c.take-new.result old h some c.take-new.ensures.block is_old logs free t.sizes.pages (deque_items t.rw.entries) _ t.next c.expire_block.ensures.entries
+    replaced_view (vec_items t.map) (deque_items t.rw.blocks) (deque_items t.free.blocks) _ _ t.sw k c.requires.has c.take-new.result old h (some_free t) c.take-new.ensures.block is_old logs free t.sizes.pages (deque_items t.rw.entries) _ t.next c.expire_block.ensures.entries
 
 pub returns-clause-roles : goal.returns-clause-roles
 returns-clause-roles c =
@@ -42,6 +43,5 @@ returns-clause-roles c =
     let h : k.owner.0 < length (vec_items t.map) = omega (arith, ap owner_of c.requires.has, t.owned, t.map.ok.0, t.mapped) in
     let logs = ap deque_items c.expire_block.ensures.blocks in
     let is_old = get_or_numbers (vec_items t.map) k.owner.0 old h c.index-old.ensures in
-    let some : 0 < length (deque_items t.free.blocks) = omega (arith, t.free.blocks.ok.0, c.requires.some) in
     let free = c.put-2.ensures.items ∙ ap (λ xs. xs ++ (k.block ∷ [])) (c.put.ensures.items ∙ ap (λ xs. xs ++ (old ∷ [])) c.take-new.ensures.items) in
-    replaced_led (vec_items t.map) (deque_items t.rw.blocks) (deque_items t.free.blocks) _ _ t.sw k c.requires.has c.take-new.result old h some c.take-new.ensures.block is_old logs free t.sizes.blocks t.one_role (deque_items t.rw.entries) (deque_items c.expire_block.new.self.entries) t.next t.next
+    replaced_led (vec_items t.map) (deque_items t.rw.blocks) (deque_items t.free.blocks) _ _ t.sw k c.requires.has c.take-new.result old h (some_free t) c.take-new.ensures.block is_old logs free t.sizes.blocks t.one_role (deque_items t.rw.entries) (deque_items c.expire_block.new.self.entries) t.next t.next
