@@ -39,52 +39,47 @@ fn cut(buffer: &[u8]) -> &[u8]
     split_once(buffer, 0).map_or(buffer, |(text, _)| text)
 }
 
-// What is printed so far, and the number of the line whose turn it is.
+// What is printed so far.
 #[derive(Drop)]
 struct Output {
     heap: Global,
     bytes: Vec<u8>,
-    line: u64,
 }
 
 impl Output {
     fn push<T: Display + Drop>(&mut self, text: T) -> Result<(), AllocError>
-        ensures text { OnOk result (IfSome (T.Display.output text) (λ s. self.new.bytes.items ≡ self.old.bytes.items ++ s)) }
-        ensures line { self.new.line ≡ self.old.line }
+        ensures { OnOk result (IfSome (T.Display.output text) (λ s. self.new.bytes.items ≡ self.old.bytes.items ++ s)) }
     {
         let text = text.to_string(self.heap)?;
         self.bytes.extend_from_slice(text.as_bytes())
     }
 
     // `line K refused M`
-    fn refused(&mut self, number: u32) -> Result<(), AllocError>
-        ensures text { OnOk result (self.new.bytes.items ≡ self.old.bytes.items ++ refused_line self.old.line number) }
-        ensures line { self.new.line ≡ self.old.line }
+    fn refused(&mut self, line: u64, number: u32) -> Result<(), AllocError>
+        ensures { OnOk result (self.new.bytes.items ≡ self.old.bytes.items ++ refused_line line number) }
     {
-        let line = self.line;
         self.push(format_args!("line {line} refused {number}\n"))
     }
 
     // `w N erases copies`
     fn wrote(
         &mut self,
+        line: u64,
         sector: Sector,
         answer: Result<(u32, u32), Refusal>,
         bytes: &[u8],
     ) -> Result<(), AllocError>
-        ensures text { OnOk result (self.new.bytes.items ≡ self.old.bytes.items ++ reply_line self.old.line sector.0 (write_told answer bytes.now)) }
-        ensures line { self.new.line ≡ self.old.line }
+        ensures { OnOk result (self.new.bytes.items ≡ self.old.bytes.items ++ reply_line line sector.0 (write_told answer bytes.now)) }
     {
         match answer {
-            Err(refusal) => self.refused(refusal.number()),
+            Err(refusal) => self.refused(line, refusal.number()),
             Ok((erases, copies)) => self.push(format_args!("w {sector} {erases} {copies}\n")),
         }
     }
 
     // `r N =` with the bytes before the first zero
     fn bytes(&mut self, sector: Sector, buffer: &[u8]) -> Result<(), AllocError>
-        ensures text { OnOk result (self.new.bytes.items ≡ self.old.bytes.items ++ bytes_line sector.0 buffer.now) }
-        ensures line { self.new.line ≡ self.old.line }
+        ensures { OnOk result (self.new.bytes.items ≡ self.old.bytes.items ++ bytes_line sector.0 buffer.now) }
     {
         self.push(format_args!("r {sector} ="))?;
         self.bytes.extend_from_slice(cut(buffer))?;
@@ -95,15 +90,15 @@ impl Output {
     // `r N =` with bytes, or `r N -`
     fn read(
         &mut self,
+        line: u64,
         sector: Sector,
         answer: Result<Found, Refusal>,
         buffer: &[u8],
     ) -> Result<(), AllocError>
-        ensures text { OnOk result (self.new.bytes.items ≡ self.old.bytes.items ++ reply_line self.old.line sector.0 (read_told answer buffer.now)) }
-        ensures line { self.new.line ≡ self.old.line }
+        ensures { OnOk result (self.new.bytes.items ≡ self.old.bytes.items ++ reply_line line sector.0 (read_told answer buffer.now)) }
     {
         match answer {
-            Err(refusal) => self.refused(refusal.number()),
+            Err(refusal) => self.refused(line, refusal.number()),
             Ok(Found::NeverWritten) => self.push(format_args!("r {sector} -\n")),
             Ok(Found::Bytes) => self.bytes(sector, buffer),
         }
@@ -113,44 +108,52 @@ impl Output {
 // Writes a text to a sector.
 fn run_write<S: Store>(
     store: &mut S,
+    line: u64,
     sector: Sector,
     text: &[u8],
     out: &mut Output,
 ) -> Result<(), AllocError>
     requires { length text.now ≤ 512 }
-    ensures adds { OnOk result (S.Store.valid store.old → Adds Does (S.Store.table store.old) out.old.line (Some (says_write sector.0 text.now)) out.old.bytes.items out.new.bytes.items (S.Store.table store.new)) }
-    ensures made { OnOk result (Adds (Asks S.Store.makes) store.old out.old.line (Some (says_write sector.0 text.now)) out.old.bytes.items out.new.bytes.items store.new) }
+    ensures adds { OnOk result (S.Store.valid store.old → Adds Does (S.Store.table store.old) line (Some (says_write sector.0 text.now)) out.old.bytes.items out.new.bytes.items (S.Store.table store.new)) }
+    ensures made { OnOk result (Adds (Asks S.Store.makes) store.old line (Some (says_write sector.0 text.now)) out.old.bytes.items out.new.bytes.items store.new) }
     ensures stays { S.Store.valid store.old → S.Store.valid store.new }
-    ensures line { out.new.line ≡ out.old.line }
 {
     let mut buffer = [0u8; SECTOR_SIZE];
     pad(&mut buffer, text);
     let answer = store.write(sector, &buffer);
-    out.wrote(sector, answer, &buffer)
+    out.wrote(line, sector, answer, &buffer)
 }
 
 // Reads a sector.
-fn run_read<S: Store>(store: &S, sector: Sector, out: &mut Output) -> Result<(), AllocError>
-    ensures adds { OnOk result (Adds Does (S.Store.table store.now) out.old.line (Some (says_read sector.0)) out.old.bytes.items out.new.bytes.items (S.Store.table store.now)) }
-    ensures made { OnOk result (Adds (Asks S.Store.makes) store.now out.old.line (Some (says_read sector.0)) out.old.bytes.items out.new.bytes.items store.now) }
-    ensures line { out.new.line ≡ out.old.line }
+fn run_read<S: Store>(
+    store: &S,
+    line: u64,
+    sector: Sector,
+    out: &mut Output,
+) -> Result<(), AllocError>
+    ensures adds { OnOk result (Adds Does (S.Store.table store.now) line (Some (says_read sector.0)) out.old.bytes.items out.new.bytes.items (S.Store.table store.now)) }
+    ensures made { OnOk result (Adds (Asks S.Store.makes) store.now line (Some (says_read sector.0)) out.old.bytes.items out.new.bytes.items store.now) }
 {
     let mut buffer = [0u8; SECTOR_SIZE];
     let answer = store.read(sector, &mut buffer);
-    out.read(sector, answer, &buffer)
+    out.read(line, sector, answer, &buffer)
 }
 
 // Carries out one line.
-fn run_line<S: Store>(store: &mut S, text: &[u8], out: &mut Output) -> Result<(), AllocError>
-    ensures adds { OnOk result (S.Store.valid store.old → Adds Does (S.Store.table store.old) out.old.line (said text.now) out.old.bytes.items out.new.bytes.items (S.Store.table store.new)) }
-    ensures made { OnOk result (Adds (Asks S.Store.makes) store.old out.old.line (said text.now) out.old.bytes.items out.new.bytes.items store.new) }
+fn run_line<S: Store>(
+    store: &mut S,
+    line: u64,
+    text: &[u8],
+    out: &mut Output,
+) -> Result<(), AllocError>
+    ensures adds { OnOk result (S.Store.valid store.old → Adds Does (S.Store.table store.old) line (said text.now) out.old.bytes.items out.new.bytes.items (S.Store.table store.new)) }
+    ensures made { OnOk result (Adds (Asks S.Store.makes) store.old line (said text.now) out.old.bytes.items out.new.bytes.items store.new) }
     ensures stays { S.Store.valid store.old → S.Store.valid store.new }
-    ensures line { out.new.line ≡ out.old.line }
 {
     match Command::parse(text) {
-        None => out.refused(NOT_UNDERSTOOD),
-        Some(Command::Read { sector }) => run_read(store, sector, out),
-        Some(Command::Write { sector, text }) => run_write(store, sector, text, out),
+        None => out.refused(line, NOT_UNDERSTOOD),
+        Some(Command::Read { sector }) => run_read(store, line, sector, out),
+        Some(Command::Write { sector, text }) => run_write(store, line, sector, text, out),
     }
 }
 
@@ -163,11 +166,11 @@ pub fn run<S: Store>(heap: Global, store: &mut S, input: &[u8]) -> Result<Vec<u8
     let mut out = Output {
         heap,
         bytes: Vec::new(heap),
-        line: 1,
     };
-    for line in Lines(input) {
-        run_line(store, line, &mut out)?;
-        out.line += 1;
+    let mut line = 1;
+    for text in Lines(input) {
+        run_line(store, line, text, &mut out)?;
+        line += 1;
     }
     Ok(out.bytes)
 }
