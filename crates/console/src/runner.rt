@@ -167,10 +167,8 @@ pub fn run<S: Store>(heap: Global, store: &mut S, input: &[u8]) -> Result<Vec<u8
         heap,
         bytes: Vec::new(heap),
     };
-    let mut line = 1;
-    for text in Lines(input) {
+    for (line, text) in (1..).zip(Lines(input)) {
         run_line(store, line, text, &mut out)?;
-        line += 1;
     }
     Ok(out.bytes)
 }
