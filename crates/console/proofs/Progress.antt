@@ -65,8 +65,8 @@ module _ {S : Type 0} (does : S → ℕ → Option Said → List ℕ → S → T
       rw (n, f) (record {
         whole = λ rest z p.
             let same : before ++ (a.0 ++ rest) ≡ after ++ rest = sym (ap (λ xs. xs ++ rest) a.2 ∙ append_assoc before a.0 rest) in
-            let next : ByLine does y (suc k) ls rest z = rw add-one at p in
-            let first : ByLine does x k left (a.0 ++ rest) z = rw e (y, a.0, rest, a.1, next, refl) in
+            let more : ByLine does y (suc k) ls rest z = rw add-one at p in
+            let first : ByLine does x k left (a.0 ++ rest) z = rw e (y, a.0, rest, a.1, more, refl) in
             subst (λ xs. ByLine does x₀ 1 all xs z) same (h.whole (a.0 ++ rest) z first);
       })
 

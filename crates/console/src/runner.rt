@@ -7,6 +7,7 @@ ghost use Rattle.std.specs.Prelude.{◌≡◌, ◌≤◌, ◌++◌, length, IfOk
 ghost use Rattle.console.specs.Commands.{says_read, says_write, said};
 ghost use Rattle.console.specs.Lines.{lines, padded, before_zero, bytes_line, refused_line, reply_line};
 ghost use Rattle.console.specs.Running.{Does, Asks, ByLine, Adds, Prints};
+ghost use Rattle.console.specs.Told.{refused_number};
 ghost use Rattle.fast.specs.Told.{read_told, write_told};
 
 use crate::command::Command;
@@ -20,8 +21,23 @@ use std::alloc::{AllocError, Global};
 use std::fmt::Display;
 use store::store::Store;
 
-// What a line is refused with that is not understood.
-const NOT_UNDERSTOOD: u32 = 15;
+// Why a line is refused: it is not understood, or the store refuses the call.
+#[derive(Clone, Copy)]
+enum Refused {
+    NotUnderstood,
+    Call(Refusal),
+}
+
+impl Refused {
+    fn number(self) -> u32
+        ensures { result ≡ refused_number self }
+    {
+        match self {
+            Refused::NotUnderstood => 15,
+            Refused::Call(refusal) => refusal.number(),
+        }
+    }
+}
 
 // Makes the buffer a text, filled up with zero bytes.
 fn pad(buffer: &mut [u8; SECTOR_SIZE], text: &[u8])
@@ -55,9 +71,10 @@ impl Output {
     }
 
     // `line K refused M`
-    fn refused(&mut self, line: u64, number: u32) -> Result<(), AllocError>
-        ensures { OnOk result (self.new.bytes.items ≡ self.old.bytes.items ++ refused_line line number) }
+    fn refused(&mut self, line: u64, why: Refused) -> Result<(), AllocError>
+        ensures { OnOk result (self.new.bytes.items ≡ self.old.bytes.items ++ refused_line line (refused_number why)) }
     {
+        let number = why.number();
         self.push(format_args!("line {line} refused {number}\n"))
     }
 
@@ -72,7 +89,7 @@ impl Output {
         ensures { OnOk result (self.new.bytes.items ≡ self.old.bytes.items ++ reply_line line sector.0 (write_told answer bytes.now)) }
     {
         match answer {
-            Err(refusal) => self.refused(line, refusal.number()),
+            Err(refusal) => self.refused(line, Refused::Call(refusal)),
             Ok((erases, copies)) => self.push(format_args!("w {sector} {erases} {copies}\n")),
         }
     }
@@ -98,7 +115,7 @@ impl Output {
         ensures { OnOk result (self.new.bytes.items ≡ self.old.bytes.items ++ reply_line line sector.0 (read_told answer buffer.now)) }
     {
         match answer {
-            Err(refusal) => self.refused(line, refusal.number()),
+            Err(refusal) => self.refused(line, Refused::Call(refusal)),
             Ok(Found::NeverWritten) => self.push(format_args!("r {sector} -\n")),
             Ok(Found::Bytes) => self.bytes(sector, buffer),
         }
@@ -151,7 +168,7 @@ fn run_line<S: Store>(
     ensures stays { S.Store.valid store.old → S.Store.valid store.new }
 {
     match Command::parse(text) {
-        None => out.refused(line, NOT_UNDERSTOOD),
+        None => out.refused(line, Refused::NotUnderstood),
         Some(Command::Read { sector }) => run_read(store, line, sector, out),
         Some(Command::Write { sector, text }) => run_write(store, line, sector, text, out),
     }
