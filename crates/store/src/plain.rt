@@ -19,7 +19,7 @@ use flash::numbers::Sector;
 // A sector with the byte before it.
 pub const SLOT_SIZE: usize = SECTOR_SIZE + 1;
 
-// The slots stand in the caller's bytes, so a slot is a place in them: as a slice of its own it would need a case for one that is too short.
+// A slot is a place in the caller's bytes, and no chunk of `as_chunks_mut`: once such a borrow is over, a proof knows nothing of what was set in it.
 #[derive(Drop)]
 pub struct PlainStore<'a> {
     bytes: &'a mut [u8],
