@@ -19,7 +19,7 @@ use flash::numbers::Sector;
 // A sector with the byte before it.
 pub const SLOT_SIZE: usize = SECTOR_SIZE + 1;
 
-// A slot is a place in the caller's bytes, and no chunk of `as_chunks_mut`: once such a borrow is over, a proof knows nothing of what was set in it.
+// A slot is a place in the caller's bytes, and no chunk of them: after `as_chunks_mut` a proof knows nothing of what was set in a chunk.
 #[derive(Drop)]
 pub struct PlainStore<'a> {
     bytes: &'a mut [u8],

@@ -11,8 +11,7 @@ use fast::layer::Found;
 use fast::refusal::Refusal;
 use flash::numbers::Sector;
 
-// A sector of one of the sides. `std`, on which libraries stand alone, has no type for one of two, and the join's is private to a crate that
-// knows no stores.
+// A sector of one of the sides. `std`, on which libraries stand alone, has no type for one of two; the join's is private, below all stores.
 #[derive(Clone, Copy)]
 enum Side {
     OnLeft(Sector),
