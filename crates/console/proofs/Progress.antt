@@ -58,14 +58,15 @@ pub record Onward {S : Type 0} (does : S → ℕ → Option Said → List ℕ �
   pub whole : (rest : List ℕ) (y : S) → ByLine does x k left rest y → ByLine does x₀ 1 all (out ++ rest) y
 
 module _ {S : Type 0} (does : S → ℕ → Option Said → List ℕ → S → Type 0) (x₀ : S) (all : List (List ℕ)) where
-  pub onward_line : (x : S) (k : ℕ) (left : List (List ℕ)) (l : List ℕ) (ls : List (List ℕ)) (before after : List ℕ) (y : S) (m : ℕ) → left ≡ l ∷ ls → m ≡ k →
-      Onward does x₀ all x k left before → Adds does x k (said l) before after y → Onward does x₀ all y (m + 1) ls after
-  onward_line x k left l ls before after y m e f h a =
-      rw f (record {
+  pub onward_line : (x : S) (k line next : ℕ) (left : List (List ℕ)) (l : List ℕ) (ls : List (List ℕ)) (before after : List ℕ) (y : S) → left ≡ l ∷ ls → line ≡ k → next ≡ line + 1 →
+      Onward does x₀ all x k left before → Adds does x line (said l) before after y → Onward does x₀ all y next ls after
+  onward_line x k line next left l ls before after y e f n h b =
+      let a : Adds does x k (said l) before after y = subst (λ j. Adds does x j (said l) before after y) f b in
+      rw (n, f) (record {
         whole = λ rest z p.
             let same : before ++ (a.0 ++ rest) ≡ after ++ rest = sym (ap (λ xs. xs ++ rest) a.2 ∙ append_assoc before a.0 rest) in
-            let next : ByLine does y (suc k) ls rest z = rw add-one at p in
-            let first : ByLine does x k left (a.0 ++ rest) z = rw e (y, a.0, rest, a.1, next, refl) in
+            let more : ByLine does y (suc k) ls rest z = rw add-one at p in
+            let first : ByLine does x k left (a.0 ++ rest) z = rw e (y, a.0, rest, a.1, more, refl) in
             subst (λ xs. ByLine does x₀ 1 all xs z) same (h.whole (a.0 ++ rest) z first);
       })
 

@@ -5,6 +5,7 @@ ghost use Rattle.console.specs.Lines.{lines};
 
 use crate::scan::split_once;
 
+// An iterator of its own: `split_inclusive` takes a closure, and over that no invariant can be stated in a generic function.
 #[derive(Drop)]
 pub(crate) struct Lines<'a>(pub(crate) &'a [u8]);
 

@@ -19,7 +19,7 @@ use flash::numbers::Sector;
 // A sector with the byte before it.
 pub const SLOT_SIZE: usize = SECTOR_SIZE + 1;
 
-// The slots stand in the caller's bytes, so a slot is a place in them: as a slice of its own it would need a case for one that is too short.
+// A slot is a place in the caller's bytes, and no chunk of them: after `as_chunks_mut` a proof knows nothing of what was set in a chunk.
 #[derive(Drop)]
 pub struct PlainStore<'a> {
     bytes: &'a mut [u8],
@@ -33,9 +33,8 @@ fn is_written(flag: u8) -> bool
 }
 
 // What the slot at a byte holds.
-fn show(bytes: &[u8], at: usize, buffer: &mut [u8]) -> Found
-    requires within { at + 513 ≤ length bytes.now }
-    requires whole { length buffer.old ≡ 512 }
+fn show(bytes: &[u8], at: usize, buffer: &mut [u8; SECTOR_SIZE]) -> Found
+    requires { at + 513 ≤ length bytes.now }
     ensures { found_told result buffer.new ≡ shown (plain_at bytes.now at) }
 {
     if !is_written(bytes[at]) {
@@ -47,9 +46,8 @@ fn show(bytes: &[u8], at: usize, buffer: &mut [u8]) -> Found
 }
 
 // Sets the slot at a byte.
-fn put(bytes: &mut [u8], at: usize, sector: &[u8])
-    requires within { at + 513 ≤ length bytes.old }
-    requires whole { length sector.now ≡ 512 }
+fn put(bytes: &mut [u8], at: usize, sector: &[u8; SECTOR_SIZE])
+    requires { at + 513 ≤ length bytes.old }
     ensures { bytes.new ≡ all_patched bytes.old ((at, 1 ∷ []) ∷ (at + 1, sector.now) ∷ []) }
 {
     bytes[at] = 1;
@@ -93,6 +91,7 @@ impl<'a> Store for PlainStore<'a> {
 
     fn read(&self, sector: Sector, buffer: &mut [u8]) -> Result<Found, Refusal> {
         let at = self.slot(sector, buffer.len())?;
+        let buffer = buffer.as_mut_array().unwrap();
         Ok(show(self.bytes, at, buffer))
     }
 
@@ -104,6 +103,7 @@ impl<'a> Store for PlainStore<'a> {
         ensures counts { IfOk result (λ p. (p.0 ≡ 0) × (p.1 ≡ 0)) }
     {
         let at = self.slot(sector, bytes.len())?;
+        let bytes = bytes.as_array().unwrap();
         put(self.bytes, at, bytes);
         Ok((0, 0))
     }

@@ -11,7 +11,7 @@ use fast::layer::Found;
 use fast::refusal::Refusal;
 use flash::numbers::Sector;
 
-// A sector of one of the sides. Either way it is a sector: an enum of the library would not say of which side.
+// A sector of one of the sides. `std`, on which libraries stand alone, has no type for one of two; the join's is private, below all stores.
 #[derive(Clone, Copy)]
 enum Side {
     OnLeft(Sector),

@@ -1,29 +1,31 @@
-use Rattle.std.proofs.Common.{length, ap, arith}
+use Rattle.std.proofs.Common.{◌≡◌, [], length, ap, ⊎_elim, arith}
 use Rattle.console.specs.Lines.{lines}
 use Rattle.console.specs.Running.{Does, Asks}
 use Rattle.console.proofs.Progress.{onward_line, onward_last, few}
+use Rattle.console.proofs.runner.run.Given.{Over}
 use Rattle.console.proofs.runner.run.Goals as goal
-
-pub overflow_add-out : goal.overflow_add-out
-overflow_add-out g c =
-    omega (arith, c.loop-line.invariant.2, ap length c.in-Some.ensures.steps, c.run_line.ensures.line, few c.args.input.now)
 
 pub loop-line-preserved : goal.loop-line-preserved
 loop-line-preserved g c =
     let l = c.loop-line in
-    let table = g.S.Store.table in (
+    let table = g.S.Store.table in
+    let steps = c.in-Some.ensures.steps in (
+      l.invariant.0,
       tt,
-      tt,
-      omega (arith, c.loop-line.invariant.2, ap length c.in-Some.ensures.steps, c.run_line.ensures.line),
+      omega (arith, l.invariant.2, ap length steps.1, steps.0.0, steps.0.1),
       λ v. c.run_line.ensures.stays (l.invariant.3 v),
-      λ v. onward_line Does (table c.args.store.now) (lines c.args.input.now) (table l.store) l.out.line _ c.in-Some.line.now _ _ _ (table c.run_line.new.store) _
-          c.in-Some.ensures.steps c.run_line.ensures.line (l.invariant.4 v) (c.in_ok-run_line.ensures.adds (l.invariant.3 v)),
-      onward_line (Asks g.S.Store.makes) c.args.store.now (lines c.args.input.now) l.store l.out.line _ c.in-Some.line.now _ _ _ c.run_line.new.store _
-          c.in-Some.ensures.steps c.run_line.ensures.line l.invariant.5 c.in_ok-run_line.ensures.made,
+      λ v. onward_line Does (table c.args.store.now) (lines c.args.input.now) (table l.store) _ _ _ _ c.in-Some.text.now _ _ _ (table c.run_line.new.store)
+          steps.1 steps.0.0 steps.0.1 (l.invariant.4 v) (c.in_ok-run_line.ensures.adds (l.invariant.3 v)),
+      onward_line (Asks g.S.Store.makes) c.args.store.now (lines c.args.input.now) l.store _ _ _ _ c.in-Some.text.now _ _ _ c.run_line.new.store
+          steps.1 steps.0.0 steps.0.1 l.invariant.5 c.in_ok-run_line.ensures.made,
     )
 
+-- the numbers do not run out before the lines do
+ended : (g : Over) (c : goal.In-None g) → lines c.loop-line.line-iterator.b.0.now ≡ []
+ended g c = ⊎_elim (λ top. absurd (omega (arith, top.1.0, c.loop-line.invariant.2, few c.args.input.now))) (λ none. none.1.0) c.in-None.ensures.steps
+
 pub returns-clause-prints : goal.returns-clause-prints
-returns-clause-prints g c v = onward_last Does _ _ _ _ _ _ c.in-None.ensures.steps.0 (c.loop-line.invariant.4 v)
+returns-clause-prints g c v = onward_last Does _ _ _ _ _ _ (ended g c) (c.loop-line.invariant.4 v)
 
 pub returns-clause-made : goal.returns-clause-made
-returns-clause-made g c = onward_last (Asks g.S.Store.makes) _ _ _ _ _ _ c.in-None.ensures.steps.0 c.loop-line.invariant.5
+returns-clause-made g c = onward_last (Asks g.S.Store.makes) _ _ _ _ _ _ (ended g c) c.loop-line.invariant.5
