@@ -399,8 +399,11 @@ fn a_blank_image_is_refused_as_its_check_would(rt: HostRuntime) {
     for (i, Room(geometry, length, number, section, byte)) in ROOMS.into_iter().enumerate() {
         let mut bytes = [0x5A; 2121];
         let end = length.min(2121);
-        let answer = write_blank(&mut bytes[0..end], geometry)
-            .map_err(|fault| (fault.number(), fault.section(), fault.byte()));
+        let answer = write_blank(&mut bytes[0..end], geometry).map_err(|fault| (
+            fault.number(),
+            fault.section(),
+            fault.byte(),
+        ));
         assert_eq!(rt; answer, Err((number, section, byte)), "{i}");
         assert!(rt; bytes == [0x5A; 2121], "{i}");
     }

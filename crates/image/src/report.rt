@@ -40,7 +40,11 @@ impl fmt::Display for Report {
             }
             Report::Refused(fault) => {
                 let (number, section) = (fault.number(), fault.section());
-                write!(f, "refused {number} section {section} byte {}", fault.byte())
+                write!(
+                    f,
+                    "refused {number} section {section} byte {}",
+                    fault.byte()
+                )
             }
             Report::TooLong => write!(f, "too long"),
         }
