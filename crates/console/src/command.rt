@@ -29,7 +29,7 @@ fn parse_number(digits: &[u8]) -> Option<u32>
         return None;
     }
     let mut value = 0u32;
-    // A loop: the contract says of what bytes there is no number, which a `try_fold` would leave to a closure.
+    // a `for` with `?`, since the contract says when there is no number; a `try_fold` would hold the same body in a closure, no plainer
     for digit in digits {
         if !digit.is_ascii_digit() {
             return None;

@@ -55,7 +55,7 @@ fn cut(buffer: &[u8]) -> &[u8]
     split_once(buffer, 0).map_or(buffer, |(text, _)| text)
 }
 
-// What is printed so far.
+// What is printed so far. The number of a line is passed beside it: as a part of it, each contract had to say that it stays.
 #[derive(Drop)]
 struct Output {
     heap: Global,

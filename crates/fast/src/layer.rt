@@ -56,8 +56,12 @@ fn erase_all<D: Device>(device: &mut D)
 }
 
 // Fills the buffer with what the device shows of a page, and with 0xFF if that is blank or the device refuses.
-fn show<D: Device>(device: &D, block: Block, page: PageOffset, buffer: &mut [u8]) -> Found
-    requires { length buffer.old ≡ SECTOR_SIZE }
+fn show<D: Device>(
+    device: &D,
+    block: Block,
+    page: PageOffset,
+    buffer: &mut [u8; SECTOR_SIZE],
+) -> Found
     ensures { found_told result buffer.new ≡ shown (line (seen (D.Device.flash device.now) block.0 page.0)) }
 {
     // a `match`, since what a refusal does to the buffer is no value that a method could give
@@ -196,7 +200,7 @@ impl<D: Device> Layer<D> {
         addressed(sector, sizes.sectors(), buffer.len())?;
         let (c, o) = sizes.split(sector);
         let (block, page) = tables.place(c, o);
-        Ok(show(&self.device, block, page, buffer))
+        Ok(show(&self.device, block, page, buffer.as_mut_array().unwrap()))
     }
 
     // Writes a sector. Answers the blocks erased and the pages copied for it.

@@ -57,6 +57,17 @@ impl<First: Device, Second: Device> Join<First, Second> {
         }
     }
 
+    // The same, where the join shows this page. Buffers are left to the side.
+    fn side_of_page(&self, block: Block, page: PageOffset) -> Result<Side, Refusal>
+        ensures { MatchResult result (λ s. Lies (First.Device.flash self.now.first) (Second.Device.flash self.now.second) block.0 (Ok s) × (page.0 < joined_pages (First.Device.flash self.now.first) (Second.Device.flash self.now.second))) (λ e. (n : ℕ) → read_answer (joined (First.Device.flash self.now.first) (Second.Device.flash self.now.second)) block.0 page.0 n ≡ refused (refusal_number e)) }
+    {
+        let side = self.side(block)?;
+        if page.0 >= self.pages() {
+            return Err(Refusal::NoSuchPage);
+        }
+        Ok(side)
+    }
+
     // What the join allows where its sides allow these.
     fn allowed(&self, first: u32, second: u32) -> u32
         ensures { result ≡ shared (First.Device.flash self.now.first).blocks (Second.Device.flash self.now.second).blocks first second }
@@ -68,19 +79,6 @@ impl<First: Device, Second: Device> Join<First, Second> {
             return first;
         }
         first.min(second)
-    }
-}
-
-impl<First: Device, Second: Device> Join<First, Second> {
-    // The same, where the join shows this page. Buffers are left to the side.
-    fn side_of_page(&self, block: Block, page: PageOffset) -> Result<Side, Refusal>
-        ensures { MatchResult result (λ s. Lies (First.Device.flash self.now.first) (Second.Device.flash self.now.second) block.0 (Ok s) × (page.0 < joined_pages (First.Device.flash self.now.first) (Second.Device.flash self.now.second))) (λ e. (n : ℕ) → read_answer (joined (First.Device.flash self.now.first) (Second.Device.flash self.now.second)) block.0 page.0 n ≡ refused (refusal_number e)) }
-    {
-        let side = self.side(block)?;
-        if page.0 >= self.pages() {
-            return Err(Refusal::NoSuchPage);
-        }
-        Ok(side)
     }
 }
 

@@ -38,14 +38,13 @@ impl fmt::Display for Report {
                     "blocks {blocks} pages {pages} life {life} erases {erases}"
                 )
             }
-            Report::Refused(fault) => {
-                let (number, section) = (fault.number(), fault.section());
-                write!(
-                    f,
-                    "refused {number} section {section} byte {}",
-                    fault.byte()
-                )
-            }
+            Report::Refused(fault) => write!(
+                f,
+                "refused {} section {} byte {}",
+                fault.number(),
+                fault.section(),
+                fault.byte()
+            ),
             Report::TooLong => write!(f, "too long"),
         }
     }
