@@ -2,7 +2,6 @@ use Rattle.std.proofs.Common.{◌≡◌, [], length, ap, ⊎_elim, arith}
 use Rattle.console.specs.Lines.{lines}
 use Rattle.console.specs.Running.{Does, Asks}
 use Rattle.console.proofs.Progress.{onward_line, onward_last, few}
-use Rattle.console.proofs.runner.run.Given.{Over}
 use Rattle.console.proofs.runner.run.Goals as goal
 
 pub loop-line-preserved : goal.loop-line-preserved
@@ -20,12 +19,13 @@ loop-line-preserved g c =
           steps.1 steps.0.0 steps.0.1 l.invariant.5 c.in_ok-run_line.ensures.made,
     )
 
--- the numbers do not run out before the lines do
-ended : (g : Over) (c : goal.In-None g) → lines c.loop-line.line-iterator.b.0.now ≡ []
-ended g c = ⊎_elim (λ top. absurd (omega (arith, top.1.0, c.loop-line.invariant.2, few c.args.input.now))) (λ none. none.1.0) c.in-None.ensures.steps
-
-pub returns-clause-prints : goal.returns-clause-prints
-returns-clause-prints g c v = onward_last Does _ _ _ _ _ _ (ended g c) (c.loop-line.invariant.4 v)
-
-pub returns-clause-made : goal.returns-clause-made
-returns-clause-made g c = onward_last (Asks g.S.Store.makes) _ _ _ _ _ _ (ended g c) c.loop-line.invariant.5
+pub returns : goal.returns
+returns g c =
+    -- the numbers do not run out before the lines do
+    let ended : lines c.loop-line.line-iterator.b.0.now ≡ [] =
+    ⊎_elim (λ top. absurd (omega (arith, top.1.0, c.loop-line.invariant.2, few c.args.input.now))) (λ none. none.1.0) c.in-None.ensures.steps in
+    record {
+      prints = λ v. onward_last Does _ _ _ _ _ _ ended (c.loop-line.invariant.4 v);
+      made = onward_last (Asks g.S.Store.makes) _ _ _ _ _ _ ended c.loop-line.invariant.5;
+      stays = c.loop-line.invariant.3;
+    }
