@@ -3,4 +3,6 @@
 #![tactic(auto)]
 
 #[cfg(test)]
+mod empty;
+#[cfg(test)]
 mod tests;

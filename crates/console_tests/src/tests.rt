@@ -1,5 +1,6 @@
-// All on a plain store of two sectors, neither written.
+// All but one on a plain store of two sectors, neither written.
 
+use crate::empty::NoSectors;
 use console::respond::respond;
 use std::process::Abort;
 use std::test::Fail;
@@ -48,4 +49,12 @@ fn an_input_of_65_536_bytes_is_taken(rt: HostRuntime) -> Result<(), Fail> {
 fn a_longer_input_is_not_begun(rt: HostRuntime) -> Result<(), Fail> {
     let input = vec![in rt.alloc(); b'\n'; 65_537]?;
     prints(&rt, &input, b"too long\n")
+}
+
+#[test]
+fn a_store_may_leave_out_what_its_calls_make(rt: HostRuntime) -> Result<(), Fail> {
+    let out = respond(rt.alloc(), &mut NoSectors, b"r 0\nw 0 a\nx")?;
+    let expected = b"line 1 refused 13\nline 2 refused 13\nline 3 refused 15\n";
+    assert!(rt; out.as_slice() == expected.as_slice());
+    Ok(())
 }

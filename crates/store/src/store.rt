@@ -28,8 +28,8 @@ pub trait Store {
     // That the store is one that its own calls lead to. A write says what it does where this holds, and keeps it.
     ghost valid: { Self → Type 0 };
 
-    // A call on the first leads to the second, and is replied to so.
-    ghost makes: { Self → Self → Call → Reply → Type 0 };
+    // A call on the first leads to the second, and is replied to so. A store that leaves the member out says nothing of this: every call does.
+    ghost makes: { Self → Self → Call → Reply → Type 0 } = { λ _ _ _ _. Unit {0} };
 
     // How many sectors there are.
     fn sectors(&self) -> u32
