@@ -5,6 +5,7 @@
 
 #![tactic(auto)]
 
+use anyhow::anyhow;
 use console::respond::MOST_BYTES;
 use fresh::respond_on_module;
 use input::read_input;
@@ -14,7 +15,10 @@ mod fresh;
 
 fn main(rt: HostRuntime) -> anyhow::Result<()> {
     let input = read_input(rt.alloc(), rt.stdin(), MOST_BYTES)?;
-    let out = respond_on_module(rt.alloc(), &input)?;
+    // what failed may be the images, the tables or the output: the error of `respond_on_module` does not tell
+    let out = respond_on_module(rt.alloc(), &input).map_err(|_| anyhow!(
+        "no memory for the module and its layer"
+    ))?;
     rt.stdout().write_all(&out)?;
     Ok(())
 }

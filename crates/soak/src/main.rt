@@ -4,7 +4,8 @@
 
 #![tactic(auto)]
 
-use chips::blank::{NoImage, blank_image};
+use anyhow::anyhow;
+use chips::blank::blank_image;
 use chips::module::layer_over;
 use fast::fit::Plan;
 use fast::layer::{Found, Layer};
@@ -184,13 +185,13 @@ fn soak<D: Device>(layer: &mut Layer<D>, ledger: &mut [Option<u32>]) -> Tally {
 }
 
 // A blank chip, whose blocks bear 100,000 erases.
-fn blank_chip(heap: Global, blocks: u32, pages: u32) -> Result<Vec<u8>, NoImage> {
+fn blank_chip(heap: Global, blocks: u32, pages: u32) -> anyhow::Result<Vec<u8>> {
     let geometry = Geometry {
         blocks,
         pages,
         life: 100_000,
     };
-    blank_image(heap, geometry)
+    blank_image(heap, geometry).map_err(|_| anyhow!("no memory for the chips"))
 }
 
 fn run(rt: &HostRuntime, shape: Shape) -> anyhow::Result<()> {
@@ -208,7 +209,9 @@ fn run(rt: &HostRuntime, shape: Shape) -> anyhow::Result<()> {
         random,
         first_stamp: 1,
     };
-    let mut layer = layer_over(rt.alloc(), device, plan)?;
+    let mut layer = layer_over(rt.alloc(), device, plan).map_err(|_| anyhow!(
+        "no memory for the tables"
+    ))?;
     let sectors = layer.sectors();
     let mut ledger = vec![in rt.alloc(); None; sectors as usize]?;
     let Tally { refused, wrong, .. } = soak(&mut layer, &mut ledger);

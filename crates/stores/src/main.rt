@@ -5,6 +5,7 @@
 
 #![tactic(auto)]
 
+use anyhow::anyhow;
 use chips::blank::blank_image;
 use chips::module::{PLAN, layer_over};
 use console::respond::{MOST_BYTES, respond};
@@ -40,8 +41,12 @@ fn run_plain(rt: &HostRuntime, input: &[u8]) -> anyhow::Result<()> {
 }
 
 fn run_spread(rt: &HostRuntime, input: &[u8]) -> anyhow::Result<()> {
-    let mut image = blank_image(rt.alloc(), GEOMETRY)?;
-    let layer = layer_over(rt.alloc(), ImageChip::new(&mut image), PLAN)?;
+    let mut image = blank_image(rt.alloc(), GEOMETRY).map_err(|_| anyhow!(
+        "no memory for the chip"
+    ))?;
+    let layer = layer_over(rt.alloc(), ImageChip::new(&mut image), PLAN).map_err(|_| anyhow!(
+        "no memory for the tables"
+    ))?;
     let mut bytes = vec![in rt.alloc(); 0u8; 8 * SLOT_SIZE]?;
     let mut spread = Spread {
         left: PlainStore::new(&mut bytes),
