@@ -1,8 +1,9 @@
 -- The code's entries and the steps'.
-use Rattle.std.proofs.Common.{◌≡◌, ℕ, suc, ◌+◌, ◌-◌, ◌*◌, ◌/◌, ◌%◌, ◌<◌, ◌≤◌, Bool, false, cond, eqb, List, [], ◌∷◌, ◌++◌, map, length, take, drop, Some, sym, refl, ap, ◌∙◌, subst, ap₂, inl, inr, mul-le-mul_right, mod-lt, div-add-mod', add-one, position, arith}
+use Rattle.std.proofs.Common.{◌≡◌, ℕ, suc, ◌+◌, ◌-◌, ◌*◌, ◌/◌, ◌%◌, ◌<◌, ◌≤◌, Bool, false, cond, eqb, List, [], ◌∷◌, ◌++◌, map, length, take, drop, Some, None, Option, sym, refl, ap, ◌∙◌, subst, ap₂, inl, inr, mul-le-mul_right, mod-lt, div-add-mod', add-one, position, arith}
 use lib.Seq.{take-append-le}
 use mathlib.Core.Path.{fun_ext}
 use Rattle.std.specs.List.{position_from}
+use Rattle.std.specs.Option.{option_map}
 use Rattle.std.proofs.lemmas.Iterator.Adapters.{position_from-zero}
 use Rattle.std.proofs.lemmas.List.{take_all, drop_all, append-nil, map-append, drop-map, length-map}
 use Rattle.std.proofs.lemmas.Bool.{cases_Bool, cases_eq, cases_lt, eq-eqb, ne_eqb, lt-ltb, le-ltb, lt-leb, le-leb}
@@ -77,3 +78,41 @@ views_drop n es = sym (drop-map entry_view n es)
 
 pub length_views : (es : List Entry) → length (entries_view es) ≡ length es
 length_views es = length-map es entry_view
+
+-- the first number, else the second as so many more
+abbrev pub first_of_two : Option ℕ → ℕ → Option ℕ → Option ℕ
+first_of_two (Some k) m o = Some k
+first_of_two None m o = option_map (λ k. m + k) o
+
+counted_on : (n m i : ℕ) (es : List Entry) → entry_of n (m + i) (entries_view es) ≡ option_map (λ k. m + k) (entry_of n i (entries_view es))
+counted_on n m i [] = refl
+counted_on n m i (Live k ∷ es) =
+    let e : suc (m + i) ≡ m + suc i = omega arith in
+    elim (cases_Bool (eqb k.0 n)) [ inl h ↦ rw h refl | inr h ↦ rw (h, e) (counted_on n m (suc i) es) ]
+counted_on n m i (Stale ∷ es) = let e : suc (m + i) ≡ m + suc i = omega arith in rw e (counted_on n m (suc i) es)
+
+found_on : (n i : ℕ) (xs ys : List Entry) → entry_of n i (entries_view (xs ++ ys)) ≡ first_of_two (entry_of n i (entries_view xs)) (i + length xs) (entry_of n 0 (entries_view ys))
+found_on n i [] ys = let e : i + 0 ≡ i = omega arith in rw e (subst (λ k. entry_of n k (entries_view ys) ≡ option_map (λ k. i + k) (entry_of n 0 (entries_view ys))) e (counted_on n i 0 ys))
+found_on n i (Live k ∷ xs) ys =
+    let e : suc i + length xs ≡ i + suc (length xs) = omega arith in
+    elim (cases_Bool (eqb k.0 n)) [
+      | inl h ↦ rw h refl
+      | inr h ↦ rw h (subst (λ j. entry_of n (suc i) (entries_view (xs ++ ys)) ≡ first_of_two (entry_of n (suc i) (entries_view xs)) j (entry_of n 0 (entries_view ys))) e (found_on n (suc i) xs ys))
+    ]
+found_on n i (Stale ∷ xs) ys =
+    let e : suc i + length xs ≡ i + suc (length xs) = omega arith in
+    subst (λ j. entry_of n (suc i) (entries_view (xs ++ ys)) ≡ first_of_two (entry_of n (suc i) (entries_view xs)) j (entry_of n 0 (entries_view ys))) e (found_on n (suc i) xs ys)
+
+-- a live entry in the first or the second of two parts
+found_in_two : (n : ℕ) (xs ys : List Entry) → entry_of n 0 (entries_view (xs ++ ys)) ≡ first_of_two (entry_of n 0 (entries_view xs)) (length xs) (entry_of n 0 (entries_view ys))
+found_in_two n xs ys =
+    let e : 0 + length xs ≡ length xs = omega arith in
+    subst (λ m. entry_of n 0 (entries_view (xs ++ ys)) ≡ first_of_two (entry_of n 0 (entries_view xs)) m (entry_of n 0 (entries_view ys))) e (found_on n 0 xs ys)
+
+pub found_first : (n k : ℕ) (xs ys es : List Entry) → Some k ≡ entry_of n 0 (entries_view xs) → xs ++ ys ≡ es → Some k ≡ entry_of n 0 (entries_view es)
+found_first n k xs ys es h e =
+    subst (λ es. Some k ≡ entry_of n 0 (entries_view es)) e (sym (found_in_two n xs ys ∙ ap (λ o. first_of_two o (length xs) (entry_of n 0 (entries_view ys))) (sym h)))
+
+pub found_second : (n : ℕ) (o : Option ℕ) (xs ys es : List Entry) → None ≡ entry_of n 0 (entries_view xs) → o ≡ entry_of n 0 (entries_view ys) → xs ++ ys ≡ es → option_map (λ k. length xs + k) o ≡ entry_of n 0 (entries_view es)
+found_second n o xs ys es h l e =
+    subst (λ es. option_map (λ k. length xs + k) o ≡ entry_of n 0 (entries_view es)) e (sym (found_in_two n xs ys ∙ ap (λ p. first_of_two p (length xs) (entry_of n 0 (entries_view ys))) (sym h) ∙ ap (λ p. option_map (λ k. length xs + k) p) (sym l)))

@@ -4,7 +4,7 @@
 // page to fill is at the number of entries, and "all full but perhaps the last" is a bound on two lengths. One list has the entries of all
 // blocks, and none stands with its block, so that all the room there is comes from format: no memory may be asked for later.
 
-ghost use Rattle.std.specs.Prelude.{◌≡◌, ◌+◌, ◌-◌, ◌*◌, ◌/◌, ◌%◌, ◌^◌, ◌<◌, ◌≤◌, [], ◌∷◌, ◌++◌, drop, IfSome, nat_eq, slice_index};
+ghost use Rattle.std.specs.Prelude.{◌≡◌, ◌+◌, ◌-◌, ◌*◌, ◌/◌, ◌%◌, ◌^◌, ◌<◌, ◌≤◌, [], ◌∷◌, ◌++◌, length, drop, IfSome, nat_eq, slice_index};
 ghost use Rattle.std.specs.VecDeque.{deque_len, deque_capacity};
 ghost use Rattle.scheme.specs.Place.{entry_of};
 ghost use Rattle.scheme.specs.Tables.{stale_all, live};
@@ -42,6 +42,14 @@ fn expire_entries(entries: &mut [Entry], first: Sector, count: u32)
     }
 }
 
+// The number of the live entry of a sector, if it has one here.
+fn live_entry(entries: &[Entry], sector: Sector) -> Option<usize>
+    ensures entry { result ≡ entry_of sector.0 0 (entries_view entries.now) }
+    ensures within { IfSome result (λ i. i < length entries.now) }
+{
+    entries.iter().position(|e| *e == Entry::Live(sector))
+}
+
 // How much room the lists have and what a change leaves alone are facts of each change below, and no invariant here: how much room they
 // need, and what has to hold of the rest, only the tables know.
 #[derive(Drop)]
@@ -56,7 +64,13 @@ impl RwList {
         ensures entry { result ≡ entry_of sector.0 0 (entries_view self.now.entries.items) }
         ensures within { IfSome result (λ i. i < deque_len self.now.entries) }
     {
-        self.entries.iter().position(|e| *e == Entry::Live(sector))
+        // the two parts of the queue one after the other: an iterator over both asks at every entry which part it is in
+        let (front, back) = self.entries.as_slices();
+        if let Some(i) = live_entry(front, sector) {
+            return Some(i);
+        }
+        let i = live_entry(back, sector)?;
+        Some(front.len() + i)
     }
 
     // The block and the page that an entry is of. The entry may be the next, whose page is still blank.

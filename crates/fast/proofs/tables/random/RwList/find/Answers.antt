@@ -1,11 +1,15 @@
-use Rattle.std.proofs.Common.{◌∙◌, deque_items, rules}
-use Rattle.std.proofs.lemmas.Iterator.Consumers.{YieldsList-from_deque}
-use Rattle.std.proofs.lemmas.Iterator.Search.{position_from_yields_List}
-use borrow.Author.Tests.{tests}
-use Rattle.fast.proofs.Entries.{is_live, found_entry}
+use Rattle.std.proofs.Common.{◌∙◌, Some, None}
+use Rattle.fast.proofs.Entries.{found_first, found_second}
 use Rattle.fast.proofs.tables.random.RwList.find.Goals as goal
+
+pub returns-in-Some-clause-entry : goal.returns-in-Some-clause-entry
+returns-in-Some-clause-entry c = found_first c.args.sector.0 _ c.as_slices.result.0.now c.as_slices.result.1.now _ c.in-Some.ensures.entry c.as_slices.ensures.items
+
+pub returns-in_err-i-clause-entry : goal.returns-in_err-i-clause-entry
+returns-in_err-i-clause-entry c =
+    c.from_residual.ensures
+    ∙ found_second c.args.sector.0 None c.as_slices.result.0.now c.as_slices.result.1.now _ c.in_default.ensures.entry c.in_err-i.ensures.entry c.as_slices.ensures.items
 
 pub returns-clause-entry : goal.returns-clause-entry
 returns-clause-entry c =
-    position_from_yields_List (is_live c.args.sector.0) _ _ _ c.position.ensures.ran (YieldsList-from_deque (deque_items c.args.self.now.entries) c.iter.ensures.rest) (λ x b q k. search (rules, tests))
-    ∙ found_entry c.args.sector.0 (deque_items c.args.self.now.entries)
+    found_second c.args.sector.0 (Some c.in_ok-i.i) c.as_slices.result.0.now c.as_slices.result.1.now _ c.in_default.ensures.entry c.in_ok-i.ensures.entry c.as_slices.ensures.items
